@@ -1,0 +1,89 @@
+-- The methods that calls without arguments choose, along a chain of superclasses.
+use Rattle.std.proofs.Common.{◌≡◌, ℕ, [], Option, Some, None, IfSome, IfNone, ◌↔◌, sym, ap, ◌∙◌, subst}
+use Rattle.std.specs.Prelude.{slice_get}
+use Rattle.java_tree.specs.declared.tree.Name.{Name}
+use Rattle.class_world.specs.declared.world.World.{World}
+use Rattle.class_world.specs.declared.world.MethodInfo.{MethodInfo}
+use Rattle.class_world.specs.declared.world.JavaType.{JavaType}
+use Rattle.class_world.specs.declared.world.JavaType.TheVariants as ty
+use Rattle.class_world.specs.Subtypes.{IsDirectSuper, IsClassTree}
+use Rattle.class_world.specs.Members.{IsMember, declared, inherited, Declares, DeclaresCalled, TakesNothing, IsChosen, AreApart, HaveOneSignature}
+use Rattle.class_world.specs.declared.members.MethodTable.{MethodTable}
+use Rattle.class_world.specs.Tables.{Indexes, found_in}
+use Rattle.class_world.proofs.Chains.{one_superclass}
+use Rattle.class_world.proofs.Tables.{indexed_apart}
+
+-- a method without parameters that a class declares is chosen on it
+pub called_chosen : (w : World) (c : ℕ) (n : Name) (m : ℕ) → DeclaresCalled w c n m → IsChosen w c n m
+called_chosen w c n m h = (declared h.1, (h.0, h.1.0, h.2, h.3))
+
+-- the info of a chosen method says that it has the name and no parameters
+chosen_info : (w : World) (n : Name) (m : ℕ) (info : MethodInfo) → slice_get w.methods m ≡ Some info → TakesNothing w n m → (info.name ≡ n) × (info.params ≡ [])
+chosen_info w n m info e h =
+    let same : info ≡ h.0 = cc (e, h.1) in
+    (ap (λ (i : MethodInfo). i.name) same ∙ h.2, ap (λ (i : MethodInfo). i.params) same ∙ h.3)
+
+-- an inherited method that is chosen is one for which the class declares none
+overrides : (w : World) (c : ℕ) (n : Name) (m k : ℕ) (info : MethodInfo) → slice_get w.methods m ≡ Some info → TakesNothing w n m
+    → ((k : ℕ) (other : MethodInfo) → Declares w c k other → HaveOneSignature other info → ⊥) → DeclaresCalled w c n k → ⊥
+overrides w c n m k info e takes none called =
+    let is = chosen_info w n m info e takes in
+    none k called.0 called.1 (called.2 ∙ sym is.0, called.3 ∙ sym is.1)
+
+-- where a class declares a method of the name, it declares what is chosen on it
+pub chosen_here : (w : World) (c : ℕ) (n : Name) (m k : ℕ) → DeclaresCalled w c n k → IsChosen w c n m → DeclaresCalled w c n m
+chosen_here w c n m k called (declared {info = info} h, takes) = let is = chosen_info w n m info h.0 takes in (info, h, is.0, is.1)
+chosen_here w c n m k called (inherited {info = info} above member e none, takes) = absurd (overrides w c n m k info e takes none called)
+
+-- a class without a superclass has the methods that it declares
+pub chosen_at_top : (w : World) (c : ℕ) (n : Name) (m : ℕ) → ((t : JavaType) → IsDirectSuper w c t → ⊥) → IsChosen w c n m → DeclaresCalled w c n m
+chosen_at_top w c n m none (declared {info = info} h, takes) = let is = chosen_info w n m info h.0 takes in (info, h, is.0, is.1)
+chosen_at_top w c n m none (inherited above member e apart, takes) = absurd (none _ above)
+
+-- a class that declares no method of the name has that of its superclass
+pub chosen_up : (w : World) (tree : IsClassTree w) (c p : ℕ) (n : Name) (m : ℕ) → IsDirectSuper w c (ty.Class p []) → ((k : ℕ) → DeclaresCalled w c n k → ⊥)
+    → IsChosen w c n m ↔ IsChosen w p n m
+chosen_up w tree c p n m above none = (rises, falls)
+  where
+    rises : IsChosen w c n m → IsChosen w p n m
+    rises (declared {info = info} h, takes) = let is = chosen_info w n m info h.0 takes in absurd (none m (info, h, is.0, is.1))
+    rises (inherited {p = q} other member e apart, takes) = (subst (λ x. IsMember w x m) (one_superclass w tree c q p other above) member, takes)
+
+    falls : IsChosen w p n m → IsChosen w c n m
+    falls (member, takes) = (
+      inherited above member takes.1 (λ k other declares one. none k (other, declares, one.0 ∙ takes.2, one.1 ∙ takes.3)),
+      takes,
+    )
+
+-- on a class one method is chosen
+pub chosen_one : (w : World) (c : ℕ) (n : Name) (m k : ℕ) → IsClassTree w → AreApart w → IsChosen w c n m → IsChosen w c n k → m ≡ k
+chosen_one w c n m k tree apart a b = go c m a.0 a.1 b
+  where
+    go : (c m : ℕ) → IsMember w c m → TakesNothing w n m → IsChosen w c n k → m ≡ k
+    go c m (declared {info = info} h) takes b =
+        let is = chosen_info w n m info h.0 takes in
+        let called : DeclaresCalled w c n m = (info, h, is.0, is.1) in
+        apart c n m k called (chosen_here w c n k m called b)
+    go c m (inherited {p = p} {info = info} above member e none) takes b =
+        go p m member takes ((chosen_up w tree c p n k above (λ j called. overrides w c n m j info e takes none called)).0 b)
+
+-- the method that a table has for a class is chosen on it, and no other
+pub found_chosen : (w : World) (table : MethodTable) (c : ℕ) (n : Name) (m : ℕ) → Indexes table w → found_in table c n ≡ Some m
+    → IsChosen w c n m × ((k : ℕ) → IsChosen w c n k → k ≡ m)
+found_chosen w table c n m indexed e =
+    let called = (indexed c n m).0 e in
+    (called_chosen w c n m called, λ k chosen. indexed_apart table w indexed c n k m (chosen_here w c n k m called chosen) called)
+
+-- where a table has none, the class declares none
+pub none_called : (w : World) (table : MethodTable) (c : ℕ) (n : Name) → Indexes table w → found_in table c n ≡ None → (m : ℕ) → DeclaresCalled w c n m → ⊥
+none_called w table c n indexed e m called = let there = (indexed c n m).1 called in absurd (cc (e, there))
+
+-- what the last look-up, at a class without a superclass, says of a class with the same methods
+pub last_found : (w : World) (table : MethodTable) (c at : ℕ) (n : Name) (o : Option ℕ) → Indexes table w → o ≡ found_in table at n
+    → ((t : JavaType) → IsDirectSuper w at t → ⊥) → ((m : ℕ) → IsChosen w at n m ↔ IsChosen w c n m)
+    → IfSome o (λ m. IsChosen w c n m) × IfNone o ((m : ℕ) → IsChosen w c n m → ⊥) × IfSome o (λ m. (k : ℕ) → IsChosen w c n k → k ≡ m)
+last_found w table c at n None indexed e top alike =
+    (tt, λ m chosen. none_called w table at n indexed (sym e) m (chosen_at_top w at n m top ((alike m).1 chosen)), tt)
+last_found w table c at n (Some m) indexed e top alike =
+    let one = found_chosen w table at n m indexed (sym e) in
+    ((alike m).0 one.0, tt, λ k chosen. one.1 k ((alike k).1 chosen))

@@ -1,0 +1,3 @@
+pub mod Subtypes
+pub mod Members
+pub mod Tables

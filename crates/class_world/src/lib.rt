@@ -1,0 +1,10 @@
+//! The declared types, methods and fields of a program, by number, and the questions on them (JLS 3rd edition, 4.10 and 8.4.8).
+#![tactic(auto)]
+
+mod members;
+mod order;
+pub mod world;
+
+pub use members::{MethodTable, find_method};
+pub use order::{is_below, is_sub, is_sub_class, superclass};
+pub use world::{FieldInfo, JavaType, MethodInfo, TypeInfo, Walk, World};

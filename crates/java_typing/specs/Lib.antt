@@ -1,0 +1,4 @@
+pub mod Main
+pub mod WorldOf
+pub mod Declarations
+pub mod Typing

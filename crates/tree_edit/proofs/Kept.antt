@@ -1,0 +1,86 @@
+-- What a change keeps: names of types, numbers of nodes, and which statements are main's.
+use Rattle.std.proofs.Common.{◌≡◌, List, [], ◌∷◌, map, Option, Some, None, inl, inr, refl, ap}
+use Rattle.std.specs.Option.{option_map}
+use Rattle.java_tree.specs.Plain as t
+use Rattle.java_tree.specs.Plain.{TypeExpr, Expr, Stmt, Stmts, Member, TypeDecl, SourceUnit}
+use Rattle.java_lexer.specs.Replaced.{Change}
+use Rattle.constraint_terms.specs.Effect.{type, expr, stmt, stmts, member, decl, generalized}
+use Rattle.tree_edit.specs.Roots.{type_root, expr_root, stmt_root, member_root}
+use Rattle.tree_edit.specs.Locals.{body_steps, member_steps, type_steps, main_steps, HasStmt}
+
+module _ (c : Change) where
+  -- ---- names and numbers
+
+  pub same_decl_names : (u : SourceUnit) → map (λ (d : TypeDecl). d.name) (generalized c u).types ≡ map (λ (d : TypeDecl). d.name) u.types
+  same_decl_names u = by_list u.types
+    where
+      by_list : (ds : List TypeDecl) → map (λ (d : TypeDecl). d.name) (map (decl c) ds) ≡ map (λ (d : TypeDecl). d.name) ds
+      by_list [] = refl
+      by_list (d ∷ ds) = rw (by_list ds) refl
+
+  pub same_decl_ids : (u : SourceUnit) → map (λ (d : TypeDecl). d.node.id) (generalized c u).types ≡ map (λ (d : TypeDecl). d.node.id) u.types
+  same_decl_ids u = by_list u.types
+    where
+      by_list : (ds : List TypeDecl) → map (λ (d : TypeDecl). d.node.id) (map (decl c) ds) ≡ map (λ (d : TypeDecl). d.node.id) ds
+      by_list [] = refl
+      by_list (d ∷ ds) = rw (by_list ds) refl
+
+  pub same_unit_id : (u : SourceUnit) → (generalized c u).node.id ≡ u.node.id
+  same_unit_id u = refl
+
+  pub same_member_id : (x : Member) → (member_root (member c x)).id ≡ (member_root x).id
+  same_member_id (t.AField f) = refl
+  same_member_id (t.AMethod m) = refl
+
+  pub same_stmt_id : (x : Stmt) → (stmt_root (stmt c x)).id ≡ (stmt_root x).id
+  same_stmt_id (t.Block n xs) = refl
+  same_stmt_id (t.Local n f ty vs) = refl
+  same_stmt_id (t.Value n x) = refl
+  same_stmt_id (t.OtherStmt n) = refl
+
+  pub same_expr_id : (x : Expr) → (expr_root (expr c x)).id ≡ (expr_root x).id
+  same_expr_id (t.Text n x) = refl
+  same_expr_id (t.Name n x) = refl
+  same_expr_id (t.Field n x f) = refl
+  same_expr_id (t.Call n of f xs) = refl
+  same_expr_id (t.New n ty xs) = refl
+  same_expr_id (t.Assign n op a b) = refl
+  same_expr_id (t.Other n) = refl
+
+  pub same_type_id : (x : TypeExpr) → (type_root (type c x)).id ≡ (type_root x).id
+  same_type_id (t.Written n h s args d) = refl
+
+  -- ---- the statements of main
+
+  body_steps_changed : (x : Option Stmt) → body_steps (option_map (stmt c) x) ≡ stmts c (body_steps x)
+  body_steps_changed None = refl
+  body_steps_changed (Some (t.Block n xs)) = refl
+  body_steps_changed (Some (t.Local n f ty vs)) = refl
+  body_steps_changed (Some (t.Value n x)) = refl
+  body_steps_changed (Some (t.OtherStmt n)) = refl
+
+  member_steps_changed : (xs : List Member) → member_steps (map (member c) xs) ≡ stmts c (member_steps xs)
+  member_steps_changed [] = refl
+  member_steps_changed (t.AField f ∷ xs) = refl
+  member_steps_changed (t.AMethod m ∷ xs) = body_steps_changed m.body
+
+  type_steps_changed : (ds : List TypeDecl) → type_steps (map (decl c) ds) ≡ stmts c (type_steps ds)
+  type_steps_changed [] = refl
+  type_steps_changed (d ∷ []) = member_steps_changed d.members
+  type_steps_changed (d ∷ e ∷ ds) = type_steps_changed (e ∷ ds)
+
+  pub main_steps_changed : (u : SourceUnit) → main_steps (generalized c u) ≡ stmts c (main_steps u)
+  main_steps_changed u = type_steps_changed u.types
+
+  pub stmt_changed : (xs : Stmts) (x : Stmt) → HasStmt xs x → HasStmt (stmts c xs) (stmt c x)
+  stmt_changed t.Last x has = absurd has
+  stmt_changed (t.Then y ys) x (inl same) = inl (ap (stmt c) same)
+  stmt_changed (t.Then y ys) x (inr has) = inr (stmt_changed ys x has)
+
+  -- each statement of the changed list was one before
+  pub stmt_before : (xs : Stmts) (y : Stmt) → HasStmt (stmts c xs) y → (x : Stmt) × HasStmt xs x × (y ≡ stmt c x)
+  stmt_before t.Last y has = absurd has
+  stmt_before (t.Then x xs) y (inl same) = (x, inl refl, same)
+  stmt_before (t.Then x xs) y (inr has) =
+      let before = stmt_before xs y has in
+      (before.0, inr before.1, before.2)
