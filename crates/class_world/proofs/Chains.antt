@@ -1,6 +1,7 @@
 -- Chains of superclasses in a tree of classes.
 use Rattle.std.proofs.Common.{◌≡◌, ℕ, ◌+◌, ◌≤◌, ◌<◌, zero, suc, List, [], ◌∷◌, Some, ◌⊎◌, ◌↔◌, inl, inr, refl, sym, ap, ◌∙◌, subst, length, arith}
-use Rattle.std.specs.Prelude.{slice_get}
+use Rattle.std.specs.Prelude.{slice_get, min}
+use Rattle.std.proofs.lemmas.Option.{slice_get_within}
 use Rattle.class_world.specs.declared.world.World.{World}
 use Rattle.class_world.specs.declared.world.TypeInfo.{TypeInfo}
 use Rattle.class_world.specs.declared.world.JavaType.{JavaType, out-JavaType}
@@ -118,3 +119,19 @@ below_is_proper w s t tree = (
   λ h. (λ e. none_below_itself w tree t (subst (λ x. IsBelow w x t) e h), through (direct h.1) h.2),
   λ h. elim (class_step w tree s t h.1) [ inl e ↦ absurd (h.0 e) | inr k ↦ k ],
 )
+
+-- a world is a tree of classes where each superclass comes before its class
+pub ordered_is_tree : (w : World)
+    → ((c : ℕ) (info : TypeInfo) → slice_get w.types c ≡ Some info → (info.supers ≡ []) ⊎ ((p : ℕ) × (info.supers ≡ ty.Class p [] ∷ []) × (p < c)))
+    → IsClassTree w
+ordered_is_tree w ordered = record {
+  single = λ c info e. elim (ordered c info e) [ inl none ↦ inl none | inr one ↦ inr (one.0, one.1, omega (arith, one.2, slice_get_within w.types c info e)) ];
+  rank = λ c. min c (length w.types);
+  falls = λ c p h. elim (ordered c h.0 h.1) [
+    | inl none ↦ absurd (cc (sym (ap (λ xs. slice_get xs h.2) none) ∙ h.3))
+    | inr one ↦
+        let same : one.0 ≡ p = (same_number one.0 p [] [] (only_item (ty.Class one.0 []) (ty.Class p []) h.2 (sym (ap (λ xs. slice_get xs h.2) one.1) ∙ h.3))).0 in
+        omega (arith, one.2, slice_get_within w.types c h.0 h.1)
+  ];
+  small = λ c. omega arith;
+}

@@ -1,3 +1,4 @@
 pub mod Chains
 pub mod Tables
 pub mod Chosen
+pub mod Flags

@@ -16,7 +16,7 @@ abbrev pub HasBelow : (MethodKey → Option ℕ) → World → ℕ → Type 0
 HasBelow f w m = (q : MethodKey) (k : ℕ) → (f q ≡ Some k) ↔ ((k < m) × DeclaresCalled w q.owner (record { 0 = q.name }) k)
 
 -- a method has one owner and one name
-one_key : (w : World) (c d : ℕ) (n o : Name) (m : ℕ) → DeclaresCalled w c n m → DeclaresCalled w d o m → (c ≡ d) × (n ≡ o)
+pub one_key : (w : World) (c d : ℕ) (n o : Name) (m : ℕ) → DeclaresCalled w c n m → DeclaresCalled w d o m → (c ≡ d) × (n ≡ o)
 one_key w c d n o m h k =
     let e : h.0 ≡ k.0 = cc (h.1.0, k.1.0) in
     (sym h.1.1 ∙ ap (λ (i : MethodInfo). i.owner) e ∙ k.1.1, sym h.2 ∙ ap (λ (i : MethodInfo). i.name) e ∙ k.2)
@@ -30,10 +30,6 @@ key_same k q e =
 
 same_from : (k q : MethodKey) → k.owner ≡ q.owner → k.name ≡ q.name → same_key k q ≡ true
 same_from k q e f = and_from _ _ (eq-eqb k.owner q.owner e) (eq-eqb k.name q.name f)
-
--- a table without methods
-pub empty_has : (f : MethodKey → Option ℕ) (w : World) → ((q : MethodKey) → f q ≡ None) → HasBelow f w 0
-empty_has f w none = λ q k. (λ e. absurd (cc (none q, e)), λ h. absurd (omega (arith, h.0)))
 
 -- a method that goes into no table
 pub skip_has : (f : MethodKey → Option ℕ) (w : World) (m : ℕ) → ((c : ℕ) (n : Name) → DeclaresCalled w c n m → ⊥) → HasBelow f w m → HasBelow f w (m + 1)

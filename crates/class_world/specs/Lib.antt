@@ -1,3 +1,4 @@
 pub mod Subtypes
 pub mod Members
 pub mod Tables
+pub mod Names

@@ -3,8 +3,10 @@
 
 mod members;
 mod order;
+#[cfg(test)]
+mod tests;
 pub mod world;
 
-pub use members::{MethodTable, find_method};
+pub use members::{MethodTable, find_method, member_names};
 pub use order::{is_below, is_sub, is_sub_class, superclass};
 pub use world::{FieldInfo, JavaType, MethodInfo, TypeInfo, Walk, World};

@@ -1,7 +1,9 @@
 //! The methods of the classes that a call without arguments can choose (JLS 3rd edition, 8.4.8 and 15.12.2).
 
 ghost use Rattle.std.specs.Prelude.{◌≡◌, ℕ, ◌<◌, ◌^◌, ◌↔◌, length, IfOk, IsSome, IfSome, IfNone};
+ghost use Rattle.std.specs.List.{Contains};
 ghost use Rattle.class_world.specs.Members.{AreApart, DeclaresCalled, IsChosen};
+ghost use Rattle.class_world.specs.Names.{ListsMethods, IsOwned, FlagsDeclared, FlagsNames};
 ghost use Rattle.class_world.specs.Subtypes.{IsClassTree};
 ghost use Rattle.class_world.specs.Tables.{Indexes, found_in};
 
@@ -26,7 +28,7 @@ pub struct MethodTable {
 }
 
 impl MethodTable {
-    /// The table of all classes; `None` where a class declares two methods without parameters of one name.
+    /// The table of all classes, for fewer than 2^32 methods; `None` where a class declares two methods without parameters of one name.
     pub fn of(alloc: Global, w: &World) -> Result<Option<MethodTable>, NoMemory>
         requires { length w.now.methods < 2 ^ 32 }
         ensures apart { IfOk result (λ o. IsSome o ↔ AreApart w.now) }
@@ -80,6 +82,7 @@ pub fn find_method(w: &World, table: &MethodTable, c: u32, name: Name) -> Option
     ensures only { IfSome result (λ m. (k : ℕ) → IsChosen w.now c name k → k ≡ m) }
 {
     let mut at = c;
+    // A chain of superclasses has at most as many steps as there are types.
     for _ in 0..w.types.len() {
         if let Some(m) = table.get(at, name) {
             return Some(m);
@@ -87,4 +90,50 @@ pub fn find_method(w: &World, table: &MethodTable, c: u32, name: Name) -> Option
         at = superclass(w, at)?;
     }
     table.get(at, name)
+}
+
+/// The names of the methods that calls without arguments can choose on a class: the flag at a name's number, below `names`, says whether a call of that name chooses one. Takes time for `names` and for the methods of the class and of those above it.
+pub fn member_names(alloc: Global, w: &World, c: u32, names: usize) -> Result<Vec<bool>, NoMemory>
+    requires tree { IsClassTree w.now }
+    requires listed { ListsMethods w.now }
+    ensures len { IfOk result (λ flags. length flags.items ≡ names) }
+    ensures flags { IfOk result (λ flags. FlagsNames w.now c names flags.items) }
+{
+    let mut flags = vec![in alloc; false; names]?;
+    let mut class = c;
+    for _ in 0..w.types.len() {
+        flag_declared(w, class, &mut flags);
+        match superclass(w, class) {
+            None => return Ok(flags),
+            Some(p) => class = p,
+        }
+    }
+    flag_declared(w, class, &mut flags);
+    Ok(flags)
+}
+
+/// Sets the flags of the names of the methods without parameters that a class declares.
+fn flag_declared(w: &World, c: u32, flags: &mut [bool])
+    requires { ListsMethods w.now }
+    ensures { FlagsDeclared w.now c flags.old flags.new }
+{
+    for m in methods_of(w, c) {
+        if let Some(key) = key_of(w, *m) {
+            let name = key.name as usize;
+            if name < flags.len() {
+                flags[name] = true;
+            }
+        }
+    }
+}
+
+/// The numbers of the methods that a class declares, constructors too.
+fn methods_of(w: &World, c: u32) -> &[u32]
+    requires { ListsMethods w.now }
+    ensures { (m : ℕ) → Contains result.now m ↔ IsOwned w.now c m }
+{
+    match w.types.get(c as usize) {
+        None => &[],
+        Some(info) => info.methods.as_slice(),
+    }
 }

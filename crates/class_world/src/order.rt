@@ -24,6 +24,7 @@ pub fn is_sub_class(w: &World, s: u32, t: u32) -> bool
     ensures { IsTrue result ↔ Subtype w.now (ty.Class s []) (ty.Class t []) }
 {
     let mut at = s;
+    // A chain of superclasses has at most as many steps as there are types.
     for _ in 0..w.types.len() {
         if at == t {
             return true;

@@ -9,5 +9,4 @@ ghost use Rattle.constraint_terms.specs.Effect.{generalized};
 /// A change keeps the number of declared types.
 pub fn same_count()
     ensures { (c : Change) (u : SourceUnit) → length (generalized c u).types ≡ length u.types }
-{
-}
+{}

@@ -15,13 +15,13 @@ further l c (b ∷ bs) (suc p) = by_test _ (further (l + 1) 1 bs p) (further l (
     by_test : (t : Bool) → Further (l + 1) 1 (place_from (l + 1) 1 bs p) → Further l (c + 1) (place_from l (c + 1) bs p)
         → Further l c (cond t (place_from (l + 1) 1 bs p) (place_from l (c + 1) bs p))
     by_test true f g = elim f.down [
-        inl h ↦ record { down = inl (omega arith) }
-        | inr h ↦ record { down = inl (omega arith) }
-      ]
+      | inl h ↦ record { down = inl (omega arith) }
+      | inr h ↦ record { down = inl (omega arith) }
+    ]
     by_test false f g = elim g.down [
-        inl h ↦ record { down = inl h }
-        | inr h ↦ record { down = inr (h.0, omega arith) }
-      ]
+      | inl h ↦ record { down = inl h }
+      | inr h ↦ record { down = inr (h.0, omega arith) }
+    ]
 
 -- no later byte has the place at which the text begins
 not_here : (l c : ℕ) (b : ℕ) (bs : List ℕ) (p : ℕ) → place_from l c (b ∷ bs) (suc p) ≡ record { line = l; col = c } → ⊥

@@ -1,12 +1,10 @@
 -- Tokens by their places, after a change.
-use Rattle.std.proofs.Common.{◌≡◌, ℕ, ◌+◌, ◌-◌, ◌<◌, ◌≤◌, ◌==◌, if◌then◌else◌, List, length, map, slice_get, Option, Some, None, get_or, refl, sym, ap, ◌∙◌, arith}
+use Rattle.std.proofs.Common.{◌≡◌, ℕ, ◌-◌, ◌<◌, ◌≤◌, ◌==◌, if◌then◌else◌, List, length, map, slice_get, Option, Some, None, get_or, refl, ap, ◌∙◌, arith}
 use Rattle.std.specs.Prelude.{option_map}
 use Rattle.std.proofs.lemmas.Option.{slice_get-map, slice_get-get_or}
-use Rattle.java_tree.specs.declared.tree.Span.{Span}
 use Rattle.java_lexer.specs.declared.token.Tok.{Tok}
-use Rattle.java_lexer.specs.declared.token.Sort.{Sort}
 use Rattle.java_lexer.specs.declared.token.Sort.TheVariants as s
-use Rattle.java_lexer.specs.Reads.{sort_in, text_in, from_in, to_in, sort_at, text_at, from_at, to_at, span_of}
+use Rattle.java_lexer.specs.Reads.{sort_in, sort_at, text_at, from_at, to_at, span_of}
 use Rattle.java_lexer.specs.Replaced.{Change, moved, moved_span, moved_tok}
 
 -- the token at a place within the list

@@ -1,7 +1,7 @@
 -- The tokens of a small text.
-use Rattle.std.specs.Prelude.{◌≡◌, ℕ, ◌+◌, Bool, if◌then◌else◌, ◌==◌, List, [], ◌∷◌, length, Option, Some, None, slice_get, codes}
+use Rattle.std.specs.Prelude.{◌≡◌, ℕ, ◌+◌, if◌then◌else◌, ◌==◌, List, [], ◌∷◌, length, Some, slice_get, codes}
 use Rattle.std.specs.Str.{bytes_eq}
-use Rattle.java_tree.specs.declared.tree.Span.{Span}
+use Rattle.java_tree.specs.Names.{with_text, built_in_names}
 use Rattle.java_lexer.specs.declared.token.Tok.{Tok}
 use Rattle.java_lexer.specs.declared.token.Sort.{Sort}
 use Rattle.java_lexer.specs.declared.token.Sort.TheVariants as s
@@ -59,3 +59,23 @@ pub record Lexes (names : List (List ℕ)) (text : List ℕ) (ts : List Tok) : T
   pub spelled : text ≡ spelled pieces
   pub are : ArePieces pieces
   pub tokens : AreToks names 0 pieces ts
+
+-- the table with the identifier or literal of a piece: at the end, if it is new
+abbrev pub with_piece : List (List ℕ) → Piece → List (List ℕ)
+with_piece names (Word w) = if is_reserved w then names else with_text w names
+with_piece names (Text x) = with_text x names
+with_piece names _ = names
+
+-- the table with those of all pieces, in order
+abbrev pub interned : List (List ℕ) → List Piece → List (List ℕ)
+interned names [] = names
+interned names (p ∷ ps) = interned (with_piece names p) ps
+
+-- The text has these tokens, by the table that numbers names behind those of an old one, in order of first sight.
+pub record LexesFrom (old names : List (List ℕ)) (text : List ℕ) (ts : List Tok) : Type 0 where
+  pub lexes : Lexes names text ts
+  pub after : names ≡ interned old lexes.pieces
+
+-- behind the names of the built-in types
+abbrev pub LexesFirst : List (List ℕ) → List ℕ → List Tok → Type 0
+LexesFirst = LexesFrom built_in_names

@@ -1,4 +1,5 @@
 pub mod Pieces
 pub mod Lexing
+pub mod First
 pub mod Reads
 pub mod Replaced

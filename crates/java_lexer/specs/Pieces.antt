@@ -1,13 +1,13 @@
 -- The pieces of a small text (JLS 3.5 to 3.12): white space, identifiers and reserved words, string literals, separators.
-use Rattle.std.specs.Prelude.{◌≡◌, ℕ, ◌<◌, ◌≤◌, nat_le, nat_lt, Bool, true, false, not, ◌&&◌, ◌||◌, ◌==◌, List, [], ◌∷◌, ◌++◌, codes}
+use Rattle.std.specs.Prelude.{◌≡◌, ℕ, nat_le, nat_lt, Bool, true, false, not, ◌&&◌, ◌||◌, ◌==◌, List, [], ◌∷◌, ◌++◌, codes}
 use Rattle.std.specs.List.{list_any}
 use Rattle.std.specs.Str.{bytes_eq}
 
 pub data Piece : Type 0 where
-  Blank : ℕ → Piece          -- one byte of white space
-  Word : List ℕ → Piece      -- an identifier or a reserved word
-  Text : List ℕ → Piece      -- a string literal, by the bytes between its quotes
-  Mark : ℕ → Piece           -- a separator or `=`
+  Blank : ℕ → Piece  -- one byte of white space
+  Word : List ℕ → Piece  -- an identifier or a reserved word
+  Text : List ℕ → Piece  -- a string literal, by the bytes between its quotes
+  Mark : ℕ → Piece  -- a separator or `=`
 
 -- space, tab, line feed, form feed, carriage return
 abbrev pub is_blank : ℕ → Bool

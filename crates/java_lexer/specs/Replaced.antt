@@ -1,5 +1,5 @@
 -- One identifier in the place of another.
-use Rattle.std.specs.Prelude.{ℕ, ◌+◌, ◌-◌, nat_le, if◌then◌else◌, ◌==◌, List, ◌++◌, take, drop, length}
+use Rattle.std.specs.Prelude.{ℕ, ◌+◌, ◌-◌, nat_le, if◌then◌else◌, ◌==◌, List, ◌++◌, take, drop}
 use Rattle.java_tree.specs.declared.tree.Span.{Span}
 use Rattle.java_lexer.specs.declared.token.Tok.{Tok}
 

@@ -41,9 +41,9 @@ module _ (names : List (List ℕ)) (ts : List Tok) where
   abbrev pub print_at : ℕ → ℕ → List ℕ → Stmt
   print_at n i text =
       t.Value (node_of n i (i + 9)) (t.Call (node_of (n + 1) i (i + 8))
-        (t.AnExpr (t.Field (node_of (n + 2) i (i + 3)) (name_expr (n + 3) i) (name_at (i + 2))))
-        (name_at (i + 4))
-        (t.Also (t.Text (node_of (n + 4) (i + 6) (i + 7)) text) t.End))
+      (t.AnExpr (t.Field (node_of (n + 2) i (i + 3)) (name_expr (n + 3) i) (name_at (i + 2))))
+      (name_at (i + 4))
+      (t.Also (t.Text (node_of (n + 4) (i + 6) (i + 7)) text) t.End))
 
   pub record IsPrint (n : ℕ) (x : Stmt) (i : ℕ) : Type 0 where
     pub stand : Stand (s.Word ∷ s.Dot ∷ s.Word ∷ s.Dot ∷ s.Word ∷ s.Open ∷ s.Text ∷ s.Close ∷ s.Semicolon ∷ []) i

@@ -1,2 +1,4 @@
 pub mod Nodes
 pub mod Grammar
+pub mod Parse
+pub mod Seen

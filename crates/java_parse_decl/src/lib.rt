@@ -1,7 +1,15 @@
 //! Files of small programs, from tokens to trees (JLS 3rd edition, chapter 18).
 #![tactic(auto)]
 
-ghost use Rattle.std.specs.Prelude.{◌≡◌};
-ghost use Rattle.java_parse_decl.specs.Grammar.{Spells};
+mod fault;
+pub mod laws;
+mod parse;
+mod sorts;
+mod tokens;
+mod trees;
 
-pub fn nothing() {}
+pub use fault::SyntaxFault;
+pub use parse::parse_small;
+
+#[cfg(test)]
+mod tests;

@@ -28,7 +28,9 @@ pub trait Files {
 
     /// How often a name was absent, a read failed, and a write failed.
     ghost misses: { Self → ℕ };
+
     ghost read_faults: { Self → ℕ };
+
     ghost write_faults: { Self → ℕ };
 
     /// Appends the first `most` bytes of a file, or all where it has fewer. After a fault `into` is as it was.

@@ -1,12 +1,13 @@
 -- What a change keeps: names of types, numbers of nodes, and which statements are main's.
-use Rattle.std.proofs.Common.{◌≡◌, List, [], ◌∷◌, map, Option, Some, None, inl, inr, refl, ap}
+use Rattle.std.proofs.Common.{◌≡◌, List, [], ◌∷◌, map, Option, Some, None, inl, inr, refl, sym, ap, ◌∙◌}
+use Rattle.std.specs.Prelude.{option_and_then}
 use Rattle.std.specs.Option.{option_map}
 use Rattle.java_tree.specs.Plain as t
-use Rattle.java_tree.specs.Plain.{TypeExpr, Expr, Stmt, Stmts, Member, TypeDecl, SourceUnit}
+use Rattle.java_tree.specs.Plain.{TypeExpr, Expr, Stmt, Stmts, MethodDecl, Member, TypeDecl, SourceUnit}
 use Rattle.java_lexer.specs.Replaced.{Change}
-use Rattle.constraint_terms.specs.Effect.{type, expr, stmt, stmts, member, decl, generalized}
+use Rattle.java_typing.specs.Main.{last_type, first_method, main_method, statements, body_of, main_steps, HasStmt}
+use Rattle.constraint_terms.specs.Effect.{type, expr, stmt, stmts, method, member, decl, generalized}
 use Rattle.tree_edit.specs.Roots.{type_root, expr_root, stmt_root, member_root}
-use Rattle.tree_edit.specs.Locals.{body_steps, member_steps, type_steps, main_steps, HasStmt}
 
 module _ (c : Change) where
   -- ---- names and numbers
@@ -52,25 +53,37 @@ module _ (c : Change) where
 
   -- ---- the statements of main
 
-  body_steps_changed : (x : Option Stmt) → body_steps (option_map (stmt c) x) ≡ stmts c (body_steps x)
-  body_steps_changed None = refl
-  body_steps_changed (Some (t.Block n xs)) = refl
-  body_steps_changed (Some (t.Local n f ty vs)) = refl
-  body_steps_changed (Some (t.Value n x)) = refl
-  body_steps_changed (Some (t.OtherStmt n)) = refl
+  last_type_changed : (ds : List TypeDecl) → last_type (map (decl c) ds) ≡ option_map (decl c) (last_type ds)
+  last_type_changed [] = refl
+  last_type_changed (d ∷ []) = refl
+  last_type_changed (d ∷ e ∷ ds) = last_type_changed (e ∷ ds)
 
-  member_steps_changed : (xs : List Member) → member_steps (map (member c) xs) ≡ stmts c (member_steps xs)
-  member_steps_changed [] = refl
-  member_steps_changed (t.AField f ∷ xs) = refl
-  member_steps_changed (t.AMethod m ∷ xs) = body_steps_changed m.body
+  first_method_changed : (xs : List Member) → first_method (map (member c) xs) ≡ option_map (method c) (first_method xs)
+  first_method_changed [] = refl
+  first_method_changed (t.AField f ∷ xs) = refl
+  first_method_changed (t.AMethod m ∷ xs) = refl
 
-  type_steps_changed : (ds : List TypeDecl) → type_steps (map (decl c) ds) ≡ stmts c (type_steps ds)
-  type_steps_changed [] = refl
-  type_steps_changed (d ∷ []) = member_steps_changed d.members
-  type_steps_changed (d ∷ e ∷ ds) = type_steps_changed (e ∷ ds)
+  pub main_method_changed : (u : SourceUnit) → main_method (generalized c u) ≡ option_map (method c) (main_method u)
+  main_method_changed u = rw (last_type_changed u.types) (in_type (last_type u.types))
+    where
+      in_type : (d : Option TypeDecl) → option_and_then (λ (d : TypeDecl). first_method d.members) (option_map (decl c) d)
+          ≡ option_map (method c) (option_and_then (λ (d : TypeDecl). first_method d.members) d)
+      in_type None = refl
+      in_type (Some d) = first_method_changed d.members
+
+  statements_changed : (x : Option Stmt) → statements (option_map (stmt c) x) ≡ stmts c (statements x)
+  statements_changed None = refl
+  statements_changed (Some (t.Block n xs)) = refl
+  statements_changed (Some (t.Local n f ty vs)) = refl
+  statements_changed (Some (t.Value n x)) = refl
+  statements_changed (Some (t.OtherStmt n)) = refl
+
+  body_of_changed : (m : Option MethodDecl) → body_of (option_map (method c) m) ≡ stmts c (body_of m)
+  body_of_changed None = refl
+  body_of_changed (Some m) = statements_changed m.body
 
   pub main_steps_changed : (u : SourceUnit) → main_steps (generalized c u) ≡ stmts c (main_steps u)
-  main_steps_changed u = type_steps_changed u.types
+  main_steps_changed u = ap body_of (main_method_changed u) ∙ body_of_changed (main_method u)
 
   pub stmt_changed : (xs : Stmts) (x : Stmt) → HasStmt xs x → HasStmt (stmts c xs) (stmt c x)
   stmt_changed t.Last x has = absurd has
@@ -80,7 +93,7 @@ module _ (c : Change) where
   -- each statement of the changed list was one before
   pub stmt_before : (xs : Stmts) (y : Stmt) → HasStmt (stmts c xs) y → (x : Stmt) × HasStmt xs x × (y ≡ stmt c x)
   stmt_before t.Last y has = absurd has
-  stmt_before (t.Then x xs) y (inl same) = (x, inl refl, same)
+  stmt_before (t.Then x xs) y (inl same) = (x, inl refl, sym same)
   stmt_before (t.Then x xs) y (inr has) =
       let before = stmt_before xs y has in
       (before.0, inr before.1, before.2)

@@ -1,5 +1,6 @@
 -- The statements of main, and the tokens that they stand at.
 use Rattle.std.proofs.Common.{◌≡◌, ℕ, ◌+◌, ◌<◌, ◌≤◌, Bool, List, [], ◌∷◌, length, slice_get, Some, inl, inr, refl, sym, ap, subst, ◌∙◌, arith}
+use Rattle.std.specs.Prelude.{option_and_then}
 use Rattle.java_tree.specs.declared.tree.Node.{Node}
 use Rattle.java_tree.specs.declared.tree.Span.{Span}
 use Rattle.java_tree.specs.declared.tree.Head.{Head}
@@ -13,9 +14,10 @@ use Rattle.java_lexer.specs.Reads.{sort_at, from_at, span_of}
 use Rattle.java_lexer.proofs.Places.{here}
 use Rattle.java_parse_decl.specs.Nodes.{stmt_nodes}
 use Rattle.java_parse_decl.specs.Grammar.{Stand, local_at, IsStep, AreSteps, IsMain, AreTypes, Spells}
+use Rattle.java_typing.specs.Main.{last_type, first_method, body_of, main_steps, HasStmt}
 use Rattle.tree_edit.specs.Order.{InOrder}
 use Rattle.tree_edit.specs.Roots.{stmt_root}
-use Rattle.tree_edit.specs.Locals.{main_steps, type_steps, member_steps, HasStmt, HasHead, AreBehind, StmtsInOrder}
+use Rattle.tree_edit.specs.Locals.{HasHead, AreBehind, StmtsInOrder}
 use Rattle.tree_edit.proofs.Standing.{inside, sort_of, text_of, place_of, begins, rises, stand_at}
 
 -- the kinds of the tokens of a local, and of a call
@@ -35,14 +37,14 @@ has_nodes (t.OtherStmt n) = omega arith
 
 behind_is : (a : Node) (xs : Stmts) → AreBehind a xs → (x : Stmt) → HasStmt xs x → (a.id < (stmt_root x).id) × (a.span.from < (stmt_root x).span.from)
 behind_is a t.Last h x has = absurd has
-behind_is a (t.Then y ys) (id, from, rest) x (inl same) = rw same (id, from)
+behind_is a (t.Then y ys) (id, from, rest) x (inl same) = rw (← same) (id, from)
 behind_is a (t.Then y ys) (id, from, rest) x (inr has) = behind_is a ys rest x has
 
 -- What rises from statement to statement is a statement's own.
 once : (f : Node → ℕ) → ((a b : Node) → a.id < b.id → a.span.from < b.span.from → f a < f b)
     → (xs : Stmts) → StmtsInOrder xs → (x y : Stmt) → HasStmt xs x → HasStmt xs y → f (stmt_root x) ≡ f (stmt_root y) → x ≡ y
 once f rise t.Last h x y has has' same = absurd has
-once f rise (t.Then z zs) (behind, rest) x y (inl e) (inl e') same = e ∙ sym e'
+once f rise (t.Then z zs) (behind, rest) x y (inl e) (inl e') same = sym e ∙ e'
 once f rise (t.Then z zs) (behind, rest) x y (inl e) (inr has) same =
     let above = behind_is (stmt_root z) zs behind y has in
     let up = rise (stmt_root z) (stmt_root y) above.0 above.1 in
@@ -92,32 +94,36 @@ module _ (names : List (List ℕ)) (ts : List Tok) where
   pub stands : (xs : Stmts) (n i j : ℕ) → AreSteps names ts n xs i j → (x : Stmt) → HasStmt xs x → Stands x
   stands t.Last n i j h x has = absurd has
   stands (t.Then y ys) n i j (m, step, rest) x (inl same) =
-      record { number = n; place = i; next = m; is = subst (λ z. IsStep names ts n z i m) (sym same) step }
+      record { number = n; place = i; next = m; is = subst (λ z. IsStep names ts n z i m) same step }
   stands (t.Then y ys) n i j (m, step, rest) x (inr has) = stands ys (n + stmt_nodes y) m j rest x has
 
-  -- the class with main, whose body has these statements
-  pub record Main (xs : Stmts) : Type 0 where
+  -- the class with main, the last of these
+  pub record Main (ds : List TypeDecl) : Type 0 where
     pub number : ℕ
     pub decl : TypeDecl
     pub place : ℕ
     pub next : ℕ
     pub is : IsMain names ts number decl place next
-    pub steps : xs ≡ is.body
+    pub last : last_type ds ≡ Some decl
 
-  pub last_is_main : (ds : List TypeDecl) (n i j : ℕ) → AreTypes names ts n ds i j → Main (type_steps ds)
+  pub last_is_main : (ds : List TypeDecl) (n i j : ℕ) → AreTypes names ts n ds i j → Main ds
   last_is_main [] n i j h = absurd h
-  last_is_main (d ∷ []) n i j h =
-      record { number = n; decl = d; place = i; next = j; is = h; steps = ap (λ (d : TypeDecl). member_steps d.members) h.tree }
-  last_is_main (d ∷ e ∷ ds) n i j (m, first, rest) = last_is_main (e ∷ ds) _ m j rest
+  last_is_main (d ∷ []) n i j h = record { number = n; decl = d; place = i; next = j; is = h; last = refl }
+  last_is_main (d ∷ e ∷ ds) n i j (m, first, rest) =
+      let main = last_is_main (e ∷ ds) _ m j rest in
+      record { number = main.number; decl = main.decl; place = main.place; next = main.next; is = main.is; last = main.last }
 
-  pub main_is : (u : SourceUnit) → Spells names ts u → Main (main_steps u)
-  main_is u h = subst (λ (ds : List TypeDecl). Main (type_steps ds)) (sym (ap (λ (u : SourceUnit). u.types) h.tree)) (last_is_main h.types 1 0 (length ts) h.are)
+  pub main_is : (u : SourceUnit) → Spells names ts u → Main u.types
+  main_is u h = subst Main (sym (ap (λ (u : SourceUnit). u.types) h.tree)) (last_is_main h.types 1 0 (length ts) h.are)
+
+  pub main_body : (u : SourceUnit) (main : Main u.types) → main_steps u ≡ main.is.body
+  main_body u main = ap (λ d. body_of (option_and_then (λ (d : TypeDecl). first_method d.members) d)) (main.last ∙ ap Some main.is.tree)
 
   -- a statement of main
   pub main_step : (u : SourceUnit) → Spells names ts u → (x : Stmt) → HasStmt (main_steps u) x → Stands x
   main_step u h x has =
       let main = main_is u h in
-      stands main.is.body (main.number + 5) (main.place + 14) main.is.end main.is.steps x (subst (λ xs. HasStmt xs x) main.steps has)
+      stands main.is.body (main.number + 5) (main.place + 14) main.is.end main.is.steps x (subst (λ xs. HasStmt xs x) (main_body u main) has)
 
   -- ---- locals
 
@@ -199,7 +205,7 @@ module _ (names : List (List ℕ)) (ts : List Tok) where
     pub steps_in_order : (u : SourceUnit) → Spells names ts u → StmtsInOrder (main_steps u)
     steps_in_order u spells =
         let main = main_is u spells in
-        subst StmtsInOrder (sym main.steps) (are_in_order main.is.body (main.number + 5) (main.place + 14) main.is.end main.is.steps)
+        subst StmtsInOrder (sym (main_body u main)) (are_in_order main.is.body (main.number + 5) (main.place + 14) main.is.end main.is.steps)
 
     -- one local's type begins at a byte
     pub one_local : (u : SourceUnit) → Spells names ts u → (x y : Stmt) → HasStmt (main_steps u) x → HasStmt (main_steps u) y

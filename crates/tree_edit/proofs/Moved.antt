@@ -29,10 +29,10 @@ method_sorts = s.Void ∷ s.Word ∷ s.Open ∷ s.Close ∷ s.LeftBrace ∷ []
 abbrev plain_sorts : List Sort
 plain_sorts = s.Class ∷ s.Word ∷ s.LeftBrace ∷ []
 
-abbrev below_sorts : List Sort
+abbrev pub below_sorts : List Sort
 below_sorts = s.Class ∷ s.Word ∷ s.Extends ∷ s.Word ∷ s.LeftBrace ∷ []
 
-abbrev main_sorts : List Sort
+abbrev pub main_sorts : List Sort
 main_sorts = s.Class ∷ s.Word ∷ s.LeftBrace ∷ s.Public ∷ s.Static ∷ s.Void ∷ s.Word ∷ s.Open ∷ s.Word ∷ s.LeftBracket ∷ s.RightBracket ∷ s.Word ∷ s.Close ∷ s.LeftBrace ∷ []
 
 -- the head that a name gives

@@ -94,38 +94,54 @@ abbrev pub other_in : Option Sort → Bool
 other_in None = false
 other_in (Some k) = is_other k
 
--- a token before such a one keeps its text
+-- a token before such a one begins elsewhere, and keeps its text
 pub record Keeps (ts : List Tok) (c : Change) : Type 0 where
+  pub elsewhere : (i : ℕ) → is_other (sort_at ts (i + 1)) ≡ true → (from_at ts i == c.from) ≡ false
   pub text : (i : ℕ) → is_other (sort_at ts (i + 1)) ≡ true → text_at (map (moved_tok c) ts) i ≡ text_at ts i
 
 pub keeps : (ts : List Tok) (c : Change) (k : ℕ) → InOrder ts → IsFirst ts c k → Keeps ts c
-keeps ts c k order first = record { text = kept }
+keeps ts c k order first = record { elsewhere = elsewhere; text = kept }
   where
     word : sort_at ts k ≡ s.Word
     word = first.word
 
-    elsewhere : (i : ℕ) → is_other (sort_at ts (i + 1)) ≡ true → i < length ts → from_at ts i ≢ c.from
-    elsewhere i other in_i e =
+    within : (i : ℕ) → is_other (sort_at ts (i + 1)) ≡ true → i < length ts
+    within i other =
+        let in_next : i + 1 < length ts = inside ts (i + 1) (λ e. let past = rw e at other in cc) in
+        omega arith
+
+    apart : (i : ℕ) → is_other (sort_at ts (i + 1)) ≡ true → i < length ts → from_at ts i ≢ c.from
+    apart i other in_i e =
         let in_k : k < length ts = inside ts k (λ e. cc) in
         let same : i ≡ k = one_place ts order i k in_i in_k (e ∙ sym first.from) in
         let changed = rw (same, first.next) at other in
         cc
 
-    kept : (i : ℕ) → is_other (sort_at ts (i + 1)) ≡ true → text_at (map (moved_tok c) ts) i ≡ text_at ts i
-    kept i other =
-        let in_next : i + 1 < length ts = inside ts (i + 1) (λ e. let past = rw e at other in cc) in
-        let in_i : i < length ts = omega arith in
-        let apart = elsewhere i other in_i in
-        let test : (from_at ts i == c.from) ≡ false = grind (arith, nat_tests) in
-        text_at-moved c ts i in_i ∙ rw test refl
+    elsewhere : (i : ℕ) → is_other (sort_at ts (i + 1)) ≡ true → (from_at ts i == c.from) ≡ false
+    elsewhere i other =
+        let other_byte = apart i other (within i other) in
+        grind (arith, nat_tests)
 
--- the token at place p, the one m behind the first of those that stand
-pub kept_at : (names : List (List ℕ)) (ts : List Tok) (c : Change) → Keeps ts c → (ks : List Sort) (i m p : ℕ) → Stand names ts ks i
-    → other_in (slice_get ks (suc m)) ≡ true → p ≡ i + m → text_at (map (moved_tok c) ts) p ≡ text_at ts p
-kept_at names ts c kept ks i m p stand other same = by_case (slice_get ks (suc m)) refl other
+    kept : (i : ℕ) → is_other (sort_at ts (i + 1)) ≡ true → text_at (map (moved_tok c) ts) i ≡ text_at ts i
+    kept i other = text_at-moved c ts i (within i other) ∙ rw (elsewhere i other) refl
+
+-- The token at place p, the one m behind the first of those that stand: what stands behind it.
+other_at : (names : List (List ℕ)) (ts : List Tok) (ks : List Sort) (i m p : ℕ) → Stand names ts ks i → other_in (slice_get ks (suc m)) ≡ true → p ≡ i + m
+    → is_other (sort_at ts (p + 1)) ≡ true
+other_at names ts ks i m p stand other same = by_case (slice_get ks (suc m)) refl other
   where
-    by_case : (o : Option Sort) → slice_get ks (suc m) ≡ o → other_in o ≡ true → text_at (map (moved_tok c) ts) p ≡ text_at ts p
+    by_case : (o : Option Sort) → slice_get ks (suc m) ≡ o → other_in o ≡ true → is_other (sort_at ts (p + 1)) ≡ true
     by_case None e is = absurd (cc)
     by_case (Some k) e is =
         let behind : p + 1 ≡ i + suc m = omega arith in
-        kept.text p (rw (behind, stand_at names ts ks i (suc m) k stand e) is)
+        rw (behind, stand_at names ts ks i (suc m) k stand e) is
+
+-- its text
+pub kept_at : (names : List (List ℕ)) (ts : List Tok) (c : Change) → Keeps ts c → (ks : List Sort) (i m p : ℕ) → Stand names ts ks i
+    → other_in (slice_get ks (suc m)) ≡ true → p ≡ i + m → text_at (map (moved_tok c) ts) p ≡ text_at ts p
+kept_at names ts c kept ks i m p stand other same = kept.text p (other_at names ts ks i m p stand other same)
+
+-- its first byte
+pub elsewhere_at : (names : List (List ℕ)) (ts : List Tok) (c : Change) → Keeps ts c → (ks : List Sort) (i m p : ℕ) → Stand names ts ks i
+    → other_in (slice_get ks (suc m)) ≡ true → p ≡ i + m → (from_at ts p == c.from) ≡ false
+elsewhere_at names ts c kept ks i m p stand other same = kept.elsewhere p (other_at names ts ks i m p stand other same)

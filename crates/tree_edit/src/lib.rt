@@ -12,9 +12,10 @@ ghost use Rattle.java_lexer.specs.declared.token.Tok.{Tok};
 ghost use Rattle.java_lexer.specs.declared.token.Sort.TheVariants as s;
 ghost use Rattle.java_lexer.specs.Replaced.{Change, moved_tok};
 ghost use Rattle.java_parse_decl.specs.Grammar.{Spells};
+ghost use Rattle.java_typing.specs.Main.{main_steps, HasStmt};
 ghost use Rattle.constraint_terms.specs.Effect.{generalized};
 ghost use Rattle.tree_edit.specs.Order.{InOrder};
-ghost use Rattle.tree_edit.specs.Locals.{main_steps, HasStmt, HasLocal};
+ghost use Rattle.tree_edit.specs.Locals.{HasLocal};
 
 /// Where another identifier takes the place of the type of a local variable of main (JLS 14.4), the changed tokens spell the
 /// changed tree. The change and all spans are in bytes.

@@ -3,7 +3,6 @@ use Rattle.edit_writer.specs.Places.{place_from, place_at}
 use Rattle.edit_writer.proofs.Lines.{one_place, one_on, step_small}
 use Rattle.edit_writer.proofs.places.offset_at.Goals as goal
 
-
 pub returns-then-eq-clause-there : goal.returns-then-eq-clause-there
 returns-then-eq-clause-there c =
     let plus : c.bytes.offset + 0 ≡ c.bytes.offset = omega arith in
@@ -22,7 +21,7 @@ bytes-preserved c =
     let small = step_small c.bytes.at.line c.bytes.at.col c.in-Some.byte.now c.in-Some.behind.now c.step-at.result (c.bytes.offset + 1) c.step-at.ensures c.bytes.invariant.line c.bytes.invariant.col in
     let next : (p : ℕ) → c.bytes.offset + suc p ≡ c.bytes.offset + 1 + p = λ p. omega arith in
     let turn : (p : ℕ) → place_from c.bytes.at.line c.bytes.at.col (c.in-Some.byte.now ∷ c.in-Some.behind.now) (suc p) ≡ place_at c.args.text.now (c.bytes.offset + suc p) =
-      λ p. subst (λ xs. place_from c.bytes.at.line c.bytes.at.col xs (suc p) ≡ place_at c.args.text.now (c.bytes.offset + suc p)) split (c.bytes.invariant.here (suc p)) in
+    λ p. subst (λ xs. place_from c.bytes.at.line c.bytes.at.col xs (suc p) ≡ place_at c.args.text.now (c.bytes.offset + suc p)) split (c.bytes.invariant.here (suc p)) in
     let plus : c.bytes.offset + 0 ≡ c.bytes.offset = omega arith in
     let here = subst (λ n. place_from c.bytes.at.line c.bytes.at.col c.bytes.rest.now 0 ≡ place_at c.args.text.now n) plus (c.bytes.invariant.here 0) in
     let other : c.bytes.at ≡ c.args.place → ⊥ = search rules in

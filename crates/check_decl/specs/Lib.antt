@@ -1,0 +1,4 @@
+pub mod Scopes
+pub mod StandIn
+pub mod Holds
+pub mod Agreement

@@ -1,0 +1,7 @@
+pub mod SameNames
+pub mod SameWorld
+pub mod SameRules
+pub mod Scopes
+pub mod Steps
+pub mod Kept
+pub mod Calls

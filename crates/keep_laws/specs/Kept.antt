@@ -1,0 +1,35 @@
+-- When a local of main may be declared of another type.
+use Rattle.std.specs.Prelude.{◌≡◌, ℕ, if◌then◌else◌, ◌==◌, Option, Some}
+use Rattle.java_tree.specs.declared.tree.Name.{Name}
+use Rattle.java_tree.specs.declared.tree.Node.{Node}
+use Rattle.java_tree.specs.Plain as t
+use Rattle.java_tree.specs.Plain.{SourceUnit}
+use Rattle.class_world.specs.declared.world.World.{World}
+use Rattle.class_world.specs.Members.{IsChosen}
+use Rattle.java_typing.specs.declared.table.Use.{Use}
+use Rattle.java_typing.specs.declared.table.Use.TheVariants as use_of
+use Rattle.java_typing.specs.Main.{before_last, main_steps, HasStmt}
+use Rattle.java_typing.specs.WorldOf.{place_of}
+use Rattle.java_typing.specs.Typing.{Annotation}
+use Rattle.constraint_terms.specs.Question.{Local}
+
+-- the number in the table of names is the simple name of a type that main may name
+abbrev pub IsNameOf : SourceUnit → ℕ → ℕ → Type 0
+IsNameOf u n target = (if n == 0 then Some 0 else place_of n (before_last u.types) 16) ≡ Some target
+
+-- MEMBER: each call on the local chooses a method of the new type (JLS 15.12.2)
+abbrev pub AllAnswered : SourceUnit → World → Local → ℕ → Type 0
+AllAnswered u w x target = (stmt call receiver : Node) (m : Name)
+    → HasStmt (main_steps u) (t.Value stmt (t.Call call (t.AnExpr (t.Name receiver x.name)) m t.End)) → (k : ℕ) × IsChosen w target m k
+
+-- the use is of the method that a call of this name chooses on a class
+abbrev pub UsesChosen : World → ℕ → Name → Option Use → Type 0
+UsesChosen w c m used = (k : ℕ) × (used ≡ Some (use_of.Method k)) × IsChosen w c m k
+
+-- What a call of main on a name uses before the change, by annotation a, and after it, by b: on another local the same method, on the
+-- local x the one that it chooses on the old type and on the new one.
+pub record CallKeeps (w : World) (x : Local) (target : ℕ) (a b : Annotation) (call receiver : Node) (y m : Name) : Type 0 where
+  pub same_local : a.use_at receiver.id ≡ b.use_at receiver.id
+  pub same_method : (y ≡ x.name → ⊥) → a.use_at call.id ≡ b.use_at call.id
+  pub old_method : y ≡ x.name → UsesChosen w x.ty m (a.use_at call.id)
+  pub new_method : y ≡ x.name → UsesChosen w target m (b.use_at call.id)

@@ -1,0 +1,42 @@
+//! What holds of a small program still holds where a local of main is declared of a type above its own.
+#![tactic(auto)]
+
+ghost use Rattle.std.specs.Prelude.{◌≡◌, ℕ, List};
+ghost use Rattle.java_tree.specs.declared.tree.Name.{Name};
+ghost use Rattle.java_tree.specs.declared.tree.Node.{Node};
+ghost use Rattle.java_tree.specs.Plain as t;
+ghost use Rattle.java_tree.specs.Plain.{SourceUnit};
+ghost use Rattle.java_lexer.specs.declared.token.Tok.{Tok};
+ghost use Rattle.java_lexer.specs.Replaced.{Change};
+ghost use Rattle.java_parse_decl.specs.Grammar.{Spells};
+ghost use Rattle.class_world.specs.Subtypes.{IsBelow, IsClassTree};
+ghost use Rattle.class_world.specs.Members.{AreApart};
+ghost use Rattle.java_typing.specs.Main.{main_steps, HasStmt};
+ghost use Rattle.java_typing.specs.WorldOf.{world_of};
+ghost use Rattle.java_typing.specs.Declarations.{DeclarationsHold};
+ghost use Rattle.java_typing.specs.Typing.{StepsHold, Annotation, Annotates};
+ghost use Rattle.constraint_terms.specs.Effect.{generalized};
+ghost use Rattle.constraint_terms.specs.Question.{Local, Declares};
+ghost use Rattle.tree_edit.specs.Order.{InOrder};
+ghost use Rattle.keep_laws.specs.Kept.{IsNameOf, AllAnswered, CallKeeps};
+
+/// Where no rule is broken, and a local variable of main (JLS 14.4) is declared of a type above its own that answers each call
+/// on it, the changed file has the same types and methods, and no rule is broken.
+pub fn generalize_keeps()
+    ensures { (names : List (List ℕ)) (ts : List Tok) (u : SourceUnit) (x : Local) (target : ℕ) (c : Change) → InOrder ts → Spells names ts u
+        → DeclarationsHold names u (world_of u) → StepsHold u (world_of u) → Declares u x → c.from ≡ x.head.from → c.to ≡ x.head.to
+        → IsNameOf u c.name target → IsBelow (world_of u) x.ty target → AllAnswered u (world_of u) x target
+        → (world_of (generalized c u) ≡ world_of u) × DeclarationsHold names (generalized c u) (world_of (generalized c u))
+        × StepsHold (generalized c u) (world_of (generalized c u)) }
+{}
+
+/// Where a file and the changed one are annotated, each call of main on another local uses the method that it used, and each call
+/// on the local the method of its name that is chosen on the new type (JLS 15.12.2).
+pub fn calls_keep()
+    ensures { (names : List (List ℕ)) (ts : List Tok) (u : SourceUnit) (x : Local) (target : ℕ) (c : Change) → InOrder ts → Spells names ts u
+        → Declares u x → c.from ≡ x.head.from → IsNameOf u c.name target → IsClassTree (world_of u) → AreApart (world_of u)
+        → (a b : Annotation) → Annotates a u (world_of u) → Annotates b (generalized c u) (world_of (generalized c u))
+        → (stmt call receiver : Node) (y m : Name)
+        → HasStmt (main_steps u) (t.Value stmt (t.Call call (t.AnExpr (t.Name receiver y)) m t.End))
+        → CallKeeps (world_of u) x target a b call receiver y m }
+{}

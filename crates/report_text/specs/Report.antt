@@ -1,0 +1,44 @@
+-- The lines that are put.
+use Rattle.std.specs.Prelude.{ℕ, List, [], ◌∷◌, ◌++◌, length, codes}
+use Rattle.std.specs.Fmt.{decimal}
+use Rattle.edit_writer.specs.declared.places.Place.{Place}
+use Rattle.edit_writer.specs.declared.edits.Edit.{Edit}
+
+-- words with a space before each but the first, and the end of the line
+abbrev pub line_of : List (List ℕ) → List ℕ
+line_of [] = 10 ∷ []
+line_of (w ∷ []) = w ++ (10 ∷ [])
+line_of (w ∷ v ∷ vs) = w ++ (32 ∷ line_of (v ∷ vs))
+
+-- FILE:LINE:COL
+abbrev pub place_text : List ℕ → Place → List ℕ
+place_text file at = file ++ (58 ∷ (decimal at.line ++ (58 ∷ decimal at.col)))
+
+-- words with a space behind each
+abbrev pub spaced : List (List ℕ) → List ℕ
+spaced [] = []
+spaced (w ∷ ws) = w ++ (32 ∷ spaced ws)
+
+abbrev pub one_edit : List ℕ
+one_edit = line_of (codes "done" ∷ codes "1" ∷ codes "edits" ∷ [])
+
+abbrev pub edit_report : List ℕ → Edit → List ℕ
+edit_report file e =
+    line_of (codes "edit" ∷ file ∷ decimal e.from ∷ decimal e.to ∷ decimal (length e.text) ∷ e.text ∷ [])
+    ++ one_edit
+
+-- a refusal without a place
+abbrev pub refused : List ℕ → List ℕ
+refused rule = line_of (codes "refused" ∷ rule ∷ codes "-" ∷ [])
+
+abbrev pub refused_at : List ℕ → List ℕ → Place → List ℕ
+refused_at rule file at = line_of (codes "refused" ∷ rule ∷ place_text file at ∷ [])
+
+abbrev pub missing : List ℕ → List ℕ
+missing name = line_of (codes "missing" ∷ name ∷ [])
+
+abbrev pub read_fault : List ℕ → List ℕ
+read_fault name = line_of (codes "read" ∷ codes "fault" ∷ name ∷ [])
+
+abbrev pub write_fault : List ℕ → List ℕ
+write_fault name = line_of (codes "write" ∷ codes "fault" ∷ name ∷ [])

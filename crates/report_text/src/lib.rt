@@ -1,0 +1,6 @@
+//! The lines that jgen puts.
+#![tactic(auto)]
+
+mod report;
+
+pub use report::{edit_report, missing, read_fault, refused_at, write_fault};

@@ -1,0 +1,64 @@
+//! The lines of a report, as text.
+
+ghost use Rattle.std.specs.Prelude.{◌≡◌, [], ◌∷◌, ◌++◌, length, IfOk, codes};
+ghost use Rattle.std.specs.Fmt.{decimal};
+ghost use Rattle.std.specs.String.{string_bytes};
+ghost use Rattle.report_text.specs.Report as spec;
+
+use edit_writer::{Edit, Place};
+use java_tree::NoMemory;
+use std::alloc::Global;
+
+// The line's front, up to the space behind TO.
+fn edit_front(alloc: Global, file: &str, edit: &Edit) -> Result<String, NoMemory>
+    ensures { IfOk result (λ r. string_bytes r ≡ spec.spaced (codes "edit" ∷ file.now ∷ decimal edit.now.from ∷ decimal edit.now.to ∷ [])) }
+{
+    Ok(format!(in alloc; "edit {file} {} {} ", edit.from, edit.to)?)
+}
+
+// The rest of the line, and the line behind it.
+fn edit_rest(alloc: Global, text: &str) -> Result<String, NoMemory>
+    ensures { IfOk result (λ r. string_bytes r ≡ spec.line_of (decimal (length text.now) ∷ text.now ∷ []) ++ spec.one_edit) }
+{
+    let bytes = text.len();
+    Ok(format!(in alloc; "{bytes} {text}\ndone 1 edits\n")?)
+}
+
+/// `edit FILE FROM TO BYTES TEXT` and `done 1 edits`. The offsets are bytes of the old file, and the text is the edit's.
+pub fn edit_report(alloc: Global, file: &str, edit: &Edit, text: &str) -> Result<String, NoMemory>
+    requires { text.now ≡ edit.now.text }
+    ensures { IfOk result (λ r. string_bytes r ≡ spec.edit_report file.now edit.now) }
+{
+    let mut report = edit_front(alloc, file, edit)?;
+    let rest = edit_rest(alloc, text)?;
+    report.push_str(rest.as_str())?;
+    Ok(report)
+}
+
+/// `refused RULE FILE:LINE:COL`
+pub fn refused_at(alloc: Global, rule: &str, file: &str, place: Place) -> Result<String, NoMemory>
+    ensures { IfOk result (λ r. string_bytes r ≡ spec.refused_at rule.now file.now place) }
+{
+    Ok(format!(in alloc; "refused {rule} {file}:{}:{}\n", place.line, place.col)?)
+}
+
+/// `missing NAME`
+pub fn missing(alloc: Global, name: &str) -> Result<String, NoMemory>
+    ensures { IfOk result (λ r. string_bytes r ≡ spec.missing name.now) }
+{
+    Ok(format!(in alloc; "missing {name}\n")?)
+}
+
+/// `read fault NAME`
+pub fn read_fault(alloc: Global, name: &str) -> Result<String, NoMemory>
+    ensures { IfOk result (λ r. string_bytes r ≡ spec.read_fault name.now) }
+{
+    Ok(format!(in alloc; "read fault {name}\n")?)
+}
+
+/// `write fault NAME`
+pub fn write_fault(alloc: Global, name: &str) -> Result<String, NoMemory>
+    ensures { IfOk result (λ r. string_bytes r ≡ spec.write_fault name.now) }
+{
+    Ok(format!(in alloc; "write fault {name}\n")?)
+}
