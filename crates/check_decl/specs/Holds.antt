@@ -9,8 +9,8 @@ use Rattle.class_world.specs.Tables.{Indexes}
 use Rattle.java_typing.specs.Main.{main_method, params_of}
 use Rattle.java_typing.specs.WorldOf.{world_of}
 use Rattle.java_typing.specs.Typing.{Local, HasType, IsCallTyped, IsStmtTyped, AreTyped, scope_after, params_in}
-use Rattle.check_decl.specs.StandIn.{Numbers}
-use Rattle.check_decl.specs.declared.stand_in.Declared.{Declared}
+use Rattle.decl_table.specs.Classes.{Numbers}
+use Rattle.decl_table.specs.declared.build.Declared.{Declared}
 use Rattle.check_decl.specs.declared.scope.Scope.{Scope}
 use Rattle.check_decl.specs.declared.scope.Binding.{Binding}
 use Rattle.check_decl.specs.Scopes.{Describes, Binds}

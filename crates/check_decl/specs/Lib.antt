@@ -1,4 +1,3 @@
 pub mod Scopes
-pub mod StandIn
 pub mod Holds
 pub mod Agreement

@@ -12,7 +12,7 @@ ghost use Rattle.class_world.specs.declared.world.World as worlds;
 ghost use Rattle.class_world.specs.Subtypes.{IsClassTree, Subtype};
 ghost use Rattle.java_typing.specs.WorldOf as spec;
 ghost use Rattle.java_typing.specs.Typing.{Local, StepsHold, step_type};
-ghost use Rattle.check_decl.specs.StandIn.{Numbers};
+ghost use Rattle.decl_table.specs.Classes.{Numbers};
 ghost use Rattle.check_decl.specs.Scopes.{Binds, Calls, Describes};
 ghost use Rattle.check_decl.specs.Holds.{at_start, AllHold, AreOf, CallHolds, Decides, IsReady, IsValueOf};
 
@@ -20,8 +20,8 @@ use std::alloc::Global;
 
 use crate::body::{main_param, main_steps};
 use crate::scope::{Binding, Scope};
-use crate::stand_in::{ClassTable, Declared};
 use class_world::{World, find_method, is_sub_class};
+use decl_table::{ClassTable, Declared};
 use java_tree::NoMemory;
 use java_tree::tree::{Expr, ExprForm, Head, Name, SourceUnit, Stmt, StmtForm, TypeExpr, Var};
 

@@ -1,0 +1,5 @@
+pub mod Numbers
+pub mod Asking
+pub mod Courses
+pub mod Answering
+pub mod Smalls
