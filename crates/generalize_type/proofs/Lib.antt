@@ -1,5 +1,0 @@
-pub mod Bodies
-pub mod Firsts
-pub mod Main
-pub mod Parts
-pub mod Types

@@ -1,5 +1,0 @@
-pub mod Numbers
-pub mod Asking
-pub mod Courses
-pub mod Answering
-pub mod Smalls
