@@ -1,0 +1,5 @@
+use Rattle.check_decl.proofs.Annotated.{annotated}
+use Rattle.check_decl.proofs.laws.annotated.Goals as goal
+
+pub returns : goal.returns
+returns c = annotated

@@ -1,0 +1,14 @@
+//! The declared types and methods of a small file, and the rules on its declarations (JLS 3rd edition, chapter 8).
+#![tactic(auto)]
+
+mod build;
+mod built_ins;
+mod classes;
+mod methods;
+mod rules;
+mod tree;
+mod types;
+mod written;
+
+pub use build::{BuildFault, Declared, build_small};
+pub use classes::ClassTable;

@@ -1,0 +1,5 @@
+pub mod Bodies
+pub mod Firsts
+pub mod Main
+pub mod Parts
+pub mod Types

@@ -1,0 +1,77 @@
+use Rattle.std.proofs.Common.{◌≡◌, ◌<◌, ◌≤◌, ◌∙◌, length, slice_get, Some, true, false, inl, inr, refl, sym, ap, subst, arith}
+use Rattle.java_tree.specs.View.{unit_plain}
+use Rattle.class_world.specs.declared.world.TypeInfo.{TypeInfo}
+use Rattle.constraint_terms.specs.Question.{Local}
+use Rattle.java_typing.specs.Main.{main_steps}
+use Rattle.generalize_type.specs.Steps.{written_call, is_unflagged, local_is}
+use Rattle.generalize_type.proofs.Firsts.{found, none}
+use Rattle.generalize_type.proofs.Main.{few_types, type_named, first_unmet, all_answered, flags_of, type_at_index}
+use Rattle.generalize_type.proofs.small.generalize_small.Goals as goal
+
+pub local_begins-requires-clause-types : goal.local_begins-requires-clause-types
+local_begins-requires-clause-types c =
+    let few : length c.args.w.now.types ≤ 4112 = few_types c.args.names.now c.args.text.now _ c.args.w.now c.requires.small in
+    omega (arith, few)
+
+pub returns-in_default-clause-v : goal.returns-in_default-clause-v
+returns-in_default-clause-v c = λ k e. inl (cc, c.in_default.ensures.none c.args.names.now c.requires.small)
+
+pub returns-then-not-is_below-clause-v : goal.returns-then-not-is_below-clause-v
+returns-then-not-is_below-clause-v c = λ k e.
+    let named = c.in-Some.ensures.some c.args.names.now c.requires.small in
+    inr (
+      cc,
+      record {
+        x = local_is c.in-Some.local;
+        named = record { declared = named.0; begins = named.1 };
+        no_super = λ below. let never : false ≡ true = c.if-not-is_below.ensures.1 below in absurd (cc);
+      },
+    )
+
+pub returns-in-Some-first_unflagged-clause-member : goal.returns-in-Some-first_unflagged-clause-member
+returns-in-Some-first_unflagged-clause-member c = λ n e.
+    let x : Local = local_is c.in-Some.local in
+    let named = c.in-Some.ensures.some c.args.names.now c.requires.small in
+    let known = flags_of c.args.names.now c.args.w.now c.args.target _ _ _ c.len.ensures.value c.deref.ensures.value c.in_ok-members.ensures.flags in
+    let call = c.in-Some-first_unflagged.call in
+    let first = found written_call (is_unflagged x.name c.deref.result.now) c.steps_of.result.now (main_steps (unit_plain c.args.unit.now)) c.steps_of.ensures call c.in-Some-first_unflagged.ensures in
+    let same : n ≡ call.node.id = cc in
+    record {
+      x = x;
+      named = record { declared = named.0; begins = named.1 };
+      below = c.if-not-is_below.ensures.0 refl;
+      call = call.node;
+      first = first_unmet c.args.names.now c.args.text.now (unit_plain c.args.unit.now) c.args.w.now c.requires.small c.args.target c.deref.result.now known x call first;
+      number_is = same;
+    }
+
+pub text-name-requires : goal.text-name-requires
+text-name-requires c =
+    let there = type_at_index c.as_slice.result.now c.args.w.now.types c.args.target c.index-as_slice-target.result c.as_slice.ensures c.requires.target c.index-as_slice-target.is in
+    let low = type_named c.args.names.now c.args.text.now (unit_plain c.args.unit.now) c.args.w.now c.requires.small c.args.target c.index-as_slice-target.result there in
+    subst (λ (i : TypeInfo). i.name.0 < length c.args.names.now) c.index-as_slice-target.is low
+
+pub returns-clause-plan : goal.returns-clause-plan
+returns-clause-plan c =
+    let x : Local = local_is c.in-Some.local in
+    let named = c.in-Some.ensures.some c.args.names.now c.requires.small in
+    let known = flags_of c.args.names.now c.args.w.now c.args.target _ _ _ c.len.ensures.value c.deref.ensures.value c.in_ok-members.ensures.flags in
+    let answered = all_answered c.args.names.now c.args.text.now (unit_plain c.args.unit.now) c.args.w.now c.requires.small
+    c.args.target c.deref.result.now known x.name
+    (none written_call (is_unflagged x.name c.deref.result.now) c.steps_of.result.now (main_steps (unit_plain c.args.unit.now)) c.steps_of.ensures c.in_default-first_unflagged.ensures) in
+    let there = type_at_index c.as_slice.result.now c.args.w.now.types c.args.target c.index-as_slice-target.result c.as_slice.ensures c.requires.target c.index-as_slice-target.is in
+    record {
+      x = x;
+      named = record { declared = named.0; begins = named.1 };
+      below = c.if-not-is_below.ensures.0 refl;
+      met = λ call un. let k = answered un.stmt call un.receiver un.method un.stands in un.missing k.0 k.1;
+      answered = answered;
+      from = refl;
+      to = refl;
+      info = c.index-as_slice-target.result;
+      type_is = there;
+      written =
+          ap (λ (i : TypeInfo). slice_get c.args.names.now i.name.0) c.index-as_slice-target.is
+          ∙ c.text-name.ensures
+          ∙ ap Some (sym c.as_bytes.ensures.value ∙ sym c.in_ok-from_slice.ensures);
+    }

@@ -1,0 +1,54 @@
+-- The edit that Generalize Declared Type makes at a place, where nothing stands against it.
+use Rattle.std.specs.Prelude.{◌≡◌, ℕ, List, Some, slice_get}
+use Rattle.java_tree.specs.declared.tree.Node.{Node}
+use Rattle.java_tree.specs.declared.tree.Name.{Name}
+use Rattle.java_tree.specs.Plain as t
+use Rattle.java_tree.specs.Plain.{SourceUnit}
+use Rattle.edit_writer.specs.declared.places.Place.{Place}
+use Rattle.class_world.specs.declared.world.World.{World}
+use Rattle.class_world.specs.declared.world.TypeInfo.{TypeInfo}
+use Rattle.class_world.specs.Subtypes.{IsBelow}
+use Rattle.class_world.specs.Members.{IsChosen}
+use Rattle.java_typing.specs.Main.{main_steps, HasStmt}
+use Rattle.constraint_terms.specs.Question.{Local, Declares, BeginsAt, IsUnmet, IsFirstUnmet}
+use Rattle.generalize_type.specs.declared.small.SmallEdit.{SmallEdit}
+
+module _ (names : List (List ℕ)) (text : List ℕ) (u : SourceUnit) (w : World) (at : Place) (target : ℕ) where
+  -- V1: no local's declared type begins there
+  abbrev pub HasNoPlace : Type 0
+  HasNoPlace = (x : Local) → Declares u x → BeginsAt text x at → ⊥
+
+  -- the local whose declared type begins there
+  pub record IsNamed (x : Local) : Type 0 where
+    pub declared : Declares u x
+    pub begins : BeginsAt text x at
+
+  -- V3: the new type is not properly above the local's
+  pub record IsNotAbove : Type 0 where
+    pub x : Local
+    pub named : IsNamed x
+    pub no_super : IsBelow w x.ty target → ⊥
+
+  -- MEMBER: the number is that of the first call that the new type does not answer
+  pub record IsRefusedAt (number : ℕ) : Type 0 where
+    pub x : Local
+    pub named : IsNamed x
+    pub below : IsBelow w x.ty target
+    pub call : Node
+    pub first : IsFirstUnmet u w x target call
+    pub number_is : number ≡ call.id
+
+  -- the edit puts the new type's simple name in the place of the head
+  pub record IsPlan (e : SmallEdit) : Type 0 where
+    pub x : Local
+    pub named : IsNamed x
+    pub below : IsBelow w x.ty target
+    pub met : (call : Node) → IsUnmet u w x target call → ⊥
+    -- each call on the local chooses a method of the new type
+    pub answered : (stmt call receiver : Node) (method : Name)
+        → HasStmt (main_steps u) (t.Value stmt (t.Call call (t.AnExpr (t.Name receiver x.name)) method t.End)) → (k : ℕ) × IsChosen w target method k
+    pub from : e.from ≡ x.head.from
+    pub to : e.to ≡ x.head.to
+    pub info : TypeInfo
+    pub type_is : slice_get w.types target ≡ Some info
+    pub written : slice_get names info.name.0 ≡ Some e.text

@@ -1,0 +1,9 @@
+//! Generalize Declared Type.
+#![tactic(auto)]
+
+mod body;
+pub mod small;
+mod steps;
+
+pub use small::{SmallAgainst, SmallEdit, generalize_small};
+pub use steps::call_start;
