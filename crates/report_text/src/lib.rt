@@ -4,3 +4,6 @@
 mod report;
 
 pub use report::{edit_report, missing, read_fault, refused_at, write_fault};
+
+#[cfg(test)]
+mod tests;
