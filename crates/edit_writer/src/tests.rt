@@ -19,7 +19,11 @@ fn lines_end_at_feeds_and_returns(rt: HostRuntime) -> Result<(), Fail> {
 fn bytes_outside_an_edit_stay(rt: HostRuntime) -> Result<(), Fail> {
     let alloc = rt.alloc();
     let text = Items::from_slice(alloc, b"Object")?;
-    let edit = Edit { from: 0, to: 1, text };
+    let edit = Edit {
+        from: 0,
+        to: 1,
+        text,
+    };
     let made = apply(alloc, b"B x = new B();", [edit].as_slice())?;
     assert_eq!(rt; made.as_slice(), b"Object x = new B();".as_slice());
     Ok(())
