@@ -8,6 +8,3 @@ mod scope;
 
 pub use body::{main_param, main_steps};
 pub use check::check_small;
-
-#[cfg(test)]
-mod tests;
