@@ -1,6 +1,5 @@
 pub mod Steps
 pub mod Annotated
-pub mod Bodies
 pub mod Constructors
 pub mod Names
 pub mod Values

@@ -16,12 +16,12 @@ ghost use Rattle.decl_table.specs.Classes.{Numbers};
 ghost use Rattle.check_decl.specs.Scopes.{Binds, Calls, Describes};
 ghost use Rattle.check_decl.specs.Holds.{at_start, AllHold, AreOf, CallHolds, Decides, IsReady, IsValueOf};
 
-use crate::body::{main_param, main_steps};
 use crate::scope::{Binding, Scope};
 use class_world::{World, find_method, is_sub_class};
 use decl_table::{ClassTable, Declared};
 use java_tree::NoMemory;
 use java_tree::tree::{Expr, ExprForm, Head, Name, SourceUnit, Stmt, StmtForm, TypeExpr, Var};
+use java_typing::{main_param, main_steps};
 use std::alloc::Global;
 
 /// The simple name that a type is written by, without arguments and brackets.

@@ -68,3 +68,20 @@ step_small l c b bs at n e low left = rw e (by_test _)
     by_test : (t : Bool) → ((cond t (place_from (l + 1) 1 bs zero) (place_from l (c + 1) bs zero)).line ≤ n + 1) × ((cond t (place_from (l + 1) 1 bs zero) (place_from l (c + 1) bs zero)).col ≤ n + 1)
     by_test true = (omega arith, omega arith)
     by_test false = (omega arith, omega arith)
+
+-- a place is at most as far down and as far right as the text has bytes
+low_from : (l c n : ℕ) (bs : List ℕ) (p : ℕ) → l ≤ n → c ≤ n → 1 ≤ n → ((place_from l c bs p).line ≤ n + length bs) × ((place_from l c bs p).col ≤ n + length bs)
+low_from l c n bs zero low left one = (omega arith, omega arith)
+low_from l c n [] (suc p) low left one = (omega arith, omega arith)
+low_from l c n (b ∷ bs) (suc p) low left one =
+    by_test _ (low_from (l + 1) 1 (n + 1) bs p (omega arith) (omega arith) (omega arith)) (low_from l (c + 1) (n + 1) bs p (omega arith) (omega arith) (omega arith))
+  where
+    by_test : (t : Bool) → ((place_from (l + 1) 1 bs p).line ≤ n + 1 + length bs) × ((place_from (l + 1) 1 bs p).col ≤ n + 1 + length bs)
+        → ((place_from l (c + 1) bs p).line ≤ n + 1 + length bs) × ((place_from l (c + 1) bs p).col ≤ n + 1 + length bs)
+        → ((cond t (place_from (l + 1) 1 bs p) (place_from l (c + 1) bs p)).line ≤ n + suc (length bs))
+        × ((cond t (place_from (l + 1) 1 bs p) (place_from l (c + 1) bs p)).col ≤ n + suc (length bs))
+    by_test true f g = (omega (arith, f.0), omega (arith, f.1))
+    by_test false f g = (omega (arith, g.0), omega (arith, g.1))
+
+pub low_place : (text : List ℕ) (p : ℕ) → ((place_at text p).line ≤ 1 + length text) × ((place_at text p).col ≤ 1 + length text)
+low_place text p = low_from 1 1 1 text p (omega arith) (omega arith) (omega arith)

@@ -1,4 +1,3 @@
-pub mod Bodies
 pub mod Firsts
 pub mod Main
 pub mod Parts

@@ -26,7 +26,7 @@ use Rattle.java_typing.specs.Typing as typing
 use Rattle.tree_edit.specs.Order.{InOrder}
 use Rattle.tree_edit.specs.Roots.{stmt_root}
 use Rattle.tree_edit.specs.Locals.{StmtsInOrder}
-use Rattle.tree_edit.proofs.Standing.{inside, sort_of, text_of, stand_at}
+use Rattle.tree_edit.proofs.Standing.{inside, sort_of, text_of, place_of, begins, stand_at}
 use Rattle.tree_edit.proofs.MainSteps.{call_sorts, local_token, Stands, main_step, steps_in_order, numbered_once}
 use Rattle.constraint_terms.specs.Question.{Local, Declares, IsUnmet, IsFirstUnmet}
 use Rattle.generalize_type.specs.declared.steps.WrittenLocal.{WrittenLocal}
@@ -157,6 +157,17 @@ module _ (names : List (List ℕ)) (text : List ℕ) (u : SourceUnit) (w : World
       by_step (inr (stand, tree, next)) =
           let read = ap written_call tree in
           record { number = there.number; place = there.place; method = stand_at names given.tokens call_sorts there.place 2 sort.Word stand refl; tree = tree; call = cc }
+
+  -- a call begins at a byte of the text
+  pub call_within : (s : Stmt) (c : WrittenCall) → HasStmt (main_steps u) s → written_call s ≡ Some c → c.node.span.from < length text
+  call_within s c h e =
+      let at = call_of s c h e in
+      let word = at.method in
+      let last = inside given.tokens (at.place + 2) (λ e. cc) in
+      let found = here given.tokens at.place (omega arith) in
+      let place = within names text given.tokens given.lexes at.place found.0 found.1 in
+      let is = ap (λ (c : WrittenCall). c.node.span.from) at.call ∙ begins given.tokens at.place (at.place + 5) ∙ sym (begins given.tokens at.place (at.place + 1)) ∙ ap (λ (s : Span). s.from) (place_of given.tokens at.place found.0 found.1) in
+      omega (arith, is, place.0, place.1)
 
   -- one call has a number
   pub one_call : (s : Stmt) (c : WrittenCall) → HasStmt (main_steps u) s → written_call s ≡ Some c → (call : Node) → HasCall u call → c.node.id ≡ call.id

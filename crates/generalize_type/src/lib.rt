@@ -1,7 +1,6 @@
 //! Generalize Declared Type.
 #![tactic(auto)]
 
-mod body;
 pub mod small;
 mod steps;
 

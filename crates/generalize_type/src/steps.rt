@@ -1,6 +1,6 @@
 //! The statements of a small program's main.
 
-ghost use Rattle.std.specs.Prelude.{◌≡◌, ◌==◌, ℕ, List, IfSome};
+ghost use Rattle.std.specs.Prelude.{◌≡◌, ◌==◌, ◌<◌, ℕ, List, length, IfSome};
 ghost use Rattle.std.specs.List.{find};
 ghost use Rattle.java_tree.specs.declared.tree.Node.{Node};
 ghost use Rattle.java_tree.specs.View.{stmt_plain, stmts_plain, unit_plain};
@@ -9,8 +9,8 @@ ghost use Rattle.java_typing.specs.Main as spec;
 ghost use Rattle.generalize_type.specs.Given.{IsGiven};
 ghost use Rattle.generalize_type.specs.Steps.{written_local, written_call, locals_in, calls_in, is_unflagged, HasCall};
 
-use crate::body::main_steps;
 use java_tree::tree::{ExprForm, Head, Name, Node, SourceUnit, Span, Stmt, StmtForm};
+use java_typing::main_steps;
 
 /// A local variable as it is written: its name, its type's place in bytes, and the type's name.
 #[derive(Clone, Copy)]
@@ -115,6 +115,7 @@ pub fn call_start(unit: &SourceUnit, number: u32) -> Option<u32>
     ensures some { IfSome result (λ from. (call : Node) × HasCall (unit_plain unit.now) call × (call.id ≡ number) × (from ≡ call.span.from)) }
     ensures only { (names : List (List ℕ)) (text : List ℕ) (w : World) → IsGiven names text (unit_plain unit.now) w
         → (call : Node) → HasCall (unit_plain unit.now) call → call.id ≡ number → result ≡ Some call.span.from }
+    ensures within { (names : List (List ℕ)) (text : List ℕ) (w : World) → IsGiven names text (unit_plain unit.now) w → IfSome result (λ from. from < length text) }
 {
     let call = call_numbered(steps_of(unit), number)?;
     Some(call.node.span.from)

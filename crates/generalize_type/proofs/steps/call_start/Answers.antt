@@ -4,7 +4,7 @@ use Rattle.java_typing.specs.Main.{main_steps}
 use Rattle.generalize_type.specs.declared.steps.WrittenCall.{WrittenCall}
 use Rattle.generalize_type.specs.Steps.{written_call}
 use Rattle.generalize_type.proofs.Firsts.{same_number, is_number, found, none}
-use Rattle.generalize_type.proofs.Main.{has_call, one_call}
+use Rattle.generalize_type.proofs.Main.{has_call, one_call, call_within}
 use Rattle.generalize_type.proofs.steps.call_start.Goals as goal
 
 pub returns-in_err-call-clause-only : goal.returns-in_err-call-clause-only
@@ -24,3 +24,9 @@ returns-clause-only c = λ names text w given call has same.
     let here = c.in_ok-call.call in
     let first = found written_call (λ x. x.node.id == c.args.number) c.steps_of.result.now (main_steps (unit_plain c.args.unit.now)) c.steps_of.ensures here c.in_ok-call.ensures in
     ap Some (one_call names text (unit_plain c.args.unit.now) w given first.stmt here first.has first.is call has (same_number _ _ first.passes ∙ sym same))
+
+pub returns-clause-within : goal.returns-clause-within
+returns-clause-within c = λ names text w given.
+    let here = c.in_ok-call.call in
+    let first = found written_call (λ x. x.node.id == c.args.number) c.steps_of.result.now (main_steps (unit_plain c.args.unit.now)) c.steps_of.ensures here c.in_ok-call.ensures in
+    call_within names text (unit_plain c.args.unit.now) w given first.stmt here first.has first.is

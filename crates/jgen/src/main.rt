@@ -1,0 +1,87 @@
+//! jgen: refactorings of Java programs, proved to keep what the programs do.
+#![tactic(auto)]
+
+use refactor_app::{Status, refactor};
+use std::env;
+use std::process::ExitCode;
+use std::rt::Env;
+use tool_files::{DirFiles, StdSink};
+
+const VERSION: &str = "jgen 0.1.0";
+
+const HELP: &str = "\
+jgen: refactorings of Java programs, proved to keep what the programs do
+
+  jgen generalize OUT FILE LINE COL TYPE -- FILE
+      Changes the declared type that begins at LINE and COL of FILE, both from 1,
+      into TYPE, and writes OUT/FILE. COL counts bytes. FILE is not changed.
+  jgen --help
+  jgen --version
+
+What is reported, a line each:
+  edit FILE FROM TO BYTES TEXT   the bytes FROM to before TO of FILE become TEXT
+  done K edits                   the last line of a change
+  refused RULE PLACE             the first rule or constraint against the change
+  missing NAME, read fault NAME, write fault NAME
+
+Exit status:
+  0 done   1 refused   3 a file is missing   4 a read failed   5 a write failed
+  6 the report could not be printed   7 memory ran out
+  8 the words could not be had (no memory, or not UTF-8)
+
+Example, in the folder examples/first:
+  jgen generalize out A.java 5 5 A -- A.java";
+
+/// The words behind the program's name.
+fn words(rt: &(impl Env + AllocGlobal)) -> Option<Vec<String>> {
+    let mut words = Vec::new(rt.alloc());
+    for word in env::args(rt).ok()?.skip(1) {
+        words.push(word).ok()?;
+    }
+    Some(words)
+}
+
+/// The exit status of an answer.
+fn code(status: Status) -> u8 {
+    match status {
+        Status::Done => 0,
+        Status::Refused => 1,
+        Status::Usage => 2,
+        Status::Missing => 3,
+        Status::ReadFault => 4,
+        Status::WriteFault => 5,
+        Status::OutFault => 6,
+        Status::NoMemory => 7,
+        Status::Threw => 10,
+        Status::Bound => 11,
+    }
+}
+
+/// Prints a text that was asked for in place of a change.
+fn show(rt: &impl Print, text: &str) -> u8 {
+    match rt.println(text) {
+        Ok(()) => 0,
+        Err(_) => code(Status::OutFault),
+    }
+}
+
+fn main(rt: HostRuntime) -> ExitCode {
+    let Some(words) = words(&rt) else {
+        return ExitCode::from(8);
+    };
+    let only = if words.len() == 1 {
+        words[0].as_str()
+    } else {
+        ""
+    };
+    let ended = match only {
+        "--help" => show(&rt, HELP),
+        "--version" => show(&rt, VERSION),
+        _ => {
+            let mut files = DirFiles::new(&rt);
+            let mut out = StdSink::new(&rt);
+            code(refactor(rt.alloc(), words.as_slice(), &mut files, &mut out))
+        }
+    };
+    ExitCode::from(ended)
+}

@@ -1,0 +1,34 @@
+-- Decimal numbers without a leading zero.
+use Rattle.std.proofs.Common.{◌≡◌, ◌≢◌, ℕ, zero, suc, ◌<◌, ◌≤◌, ◌^◌, List, [], ◌∷◌, length, get_or, Result, Ok, Err, refl, sym, ◌∙◌, ap, subst, arith}
+use Rattle.std.specs.Fmt.{decimal}
+use Rattle.std.specs.Result.{OkIff}
+use Rattle.std.specs.Str.Parse.{AllDigits, digits_value, ParsesUnsigned}
+use Rattle.std.proofs.lemmas.Str.Parse.{IsNumeralModel, parse_plain, digit_at}
+use Rattle.std.proofs.lemmas.Fmt.{decimal-digits_value, decimal_is_IsNumeral, decimal_digit, first_decimal, parse-decimal}
+use Rattle.refactor_app.specs.Words.{IsNumber}
+use Rattle.refactor_app.specs.Numbers.{BeginsNumber}
+
+own : IsNumeralModel (AllDigits 10) (digits_value 10)
+own = record { to = λ ds d. d; from = λ ds d. d; same = λ ds d. refl }
+
+not_zero : (w : List ℕ) (n : ℕ) → BeginsNumber w → w ≡ decimal n → 0 < n
+not_zero w zero b e = absurd (omega (arith, b.0, ap (λ (x : List ℕ). get_or x 0 0) (e ∙ decimal_digit 0 (omega arith))))
+not_zero w (suc n) b e = omega arith
+
+pub written : {E : Type 0} (w : List ℕ) (n : ℕ) (r : Result ℕ E) → BeginsNumber w → ParsesUnsigned 64 10 w r → r ≡ Ok n → n < 10 ^ 10 → IsNumber w n
+written w n r b h e small =
+    let plain : get_or w 0 0 ≢ 43 = λ f. absurd (omega (arith, b.0)) in
+    let ok = subst (λ r. OkIff r (AllDigits 10 w × (0 < length w) × (digits_value 10 w < 2 ^ 64)) (digits_value 10 w)) e (parse_plain own 64 w r h plain) in
+    let is : decimal (digits_value 10 w) ≡ w = decimal-digits_value own w ok.0.0 ok.0.1 (λ z. absurd (omega (arith, b.0))) ok.0.2 in
+    let same : w ≡ decimal n = sym is ∙ ap decimal (sym ok.1) in
+    (same, not_zero w n b same, small)
+
+pub begins : (w : List ℕ) (n : ℕ) → IsNumber w n → BeginsNumber w
+begins w n is =
+    let digits = (decimal_is_IsNumeral n (omega (arith, is.2))).0 in
+    let first = first_decimal n is.1 (omega (arith, is.2)) in
+    let last = digit_at (decimal n) 0 digits.1 digits.0 in
+    subst BeginsNumber (sym is.0) (first, omega (arith, last))
+
+pub parsed : {E : Type 0} (w : List ℕ) (n : ℕ) (r : Result ℕ E) → IsNumber w n → ParsesUnsigned 64 10 w r → r ≡ Ok n
+parsed w n r is h = parse-decimal 64 n w r (omega (arith, is.2)) (omega (arith, is.2)) is.0 h

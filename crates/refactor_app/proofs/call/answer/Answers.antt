@@ -1,0 +1,9 @@
+use Rattle.std.proofs.Common.{◌≡◌, refl, sym, ◌∙◌}
+use Rattle.refactor_app.proofs.Courses.{refuse, finished}
+use Rattle.refactor_app.proofs.call.answer.Goals as goal
+
+pub returns-in-Ok-Refused : goal.returns-in-Ok-Refused
+returns-in-Ok-Refused g c = refuse _ _ _ _ _ _ _ c.as_bytes.ensures.value (rw c.in-Ok-Refused.field-0-is at c.in-Ok-Refused.ensures) refl c.put.ensures
+
+pub returns-in-Ok-Changed : goal.returns-in-Ok-Changed
+returns-in-Ok-Changed g c = finished _ _ _ _ _ c.in-Ok-Changed.change (rw c.in-Ok-Changed.field-0-is at c.in-Ok-Changed.ensures) c.finish.ensures

@@ -1,0 +1,68 @@
+use Rattle.std.proofs.Common.{◌≡◌, ◌∙◌, ◌⊎◌, inl, inr, List, ℕ, IfOk, codes, Err, refl, sym, ap, subst, rules, arith}
+use Rattle.edit_writer.specs.declared.places.Place.{Place}
+use Rattle.generalize_type.specs.declared.small.SmallAgainst.TheVariants as against
+use Rattle.generalize_type.specs.Plans.{HasNoPlace, IsNotAbove, IsRefusedAt, IsPlan}
+use Rattle.java_tree.specs.View.{unit_plain}
+use Rattle.report_text.specs.Report.{refused, refused_at}
+use Rattle.refactor_app.specs.Asked.{request_of}
+use Rattle.refactor_app.specs.Verdicts.{asked}
+use Rattle.refactor_app.specs.Decided.{IsLine, IsPlanned}
+use Rattle.refactor_app.proofs.Deciding.{given, target_low, too_far, no_place, not_above, unmet, has_call, planned, refused_by}
+use Rattle.refactor_app.proofs.decide.judge.Goals as goal
+
+pub returns-in_default : goal.returns-in_default
+returns-in_default c =
+    refused_by (request_of c.args.q.now) c.args.text.now (refused (codes "V1")) c.refused.result
+    (too_far c.args.text.now c.args.small.now c.requires.program (request_of c.args.q.now) c.args.target c.requires.target c.in_default.ensures.none) c.refused.ensures
+
+pub generalize_small-requires-clause-small : goal.generalize_small-requires-clause-small
+generalize_small-requires-clause-small c = given c.args.text.now c.args.small.now c.requires.program
+
+pub generalize_small-requires-clause-target : goal.generalize_small-requires-clause-target
+generalize_small-requires-clause-target c = target_low c.args.text.now c.args.small.now c.requires.program c.args.q.now.ty.now c.args.target c.requires.target
+
+-- what was said of the place that the request has
+module _ (c : goal.In-Err-Member) where
+  pub said : IsRefusedAt c.args.small.now.names c.args.text.now (unit_plain c.args.small.now.unit) c.args.small.now.declared.world (asked (request_of c.args.q.now)) c.args.target c.in-Err-Member.number
+  said =
+      subst (λ (p : Place). IsRefusedAt c.args.small.now.names c.args.text.now (unit_plain c.args.small.now.unit) c.args.small.now.declared.world p c.args.target c.in-Err-Member.number)
+      c.in-Some.ensures.some (c.generalize_small.ensures.member c.in-Err-Member.number (c.in-Err-Member.is ∙ ap Err c.in-Err-Member.field-0-is))
+
+pub unmet_at-requires-clause-call : goal.unmet_at-requires-clause-call
+unmet_at-requires-clause-call c =
+    let r = said c in
+    (r.call, has_call c.args.text.now c.args.small.now c.requires.program (request_of c.args.q.now) c.args.target c.requires.target c.in-Err-Member.number r, sym r.number_is)
+
+pub returns-in-Err-Member : goal.returns-in-Err-Member
+returns-in-Err-Member c =
+    let q = request_of c.args.q.now in
+    let text = c.args.text.now in
+    let r = subst (λ (p : Place). IsRefusedAt c.args.small.now.names text (unit_plain c.args.small.now.unit) c.args.small.now.declared.world p c.args.target c.in-Err-Member.number)
+    c.in-Some.ensures.some (c.generalize_small.ensures.member c.in-Err-Member.number (c.in-Err-Member.is ∙ ap Err c.in-Err-Member.field-0-is)) in
+    let has = has_call text c.args.small.now c.requires.program q c.args.target c.requires.target c.in-Err-Member.number r in
+    refused_by q text _ c.unmet_at.result (unmet text c.args.small.now c.requires.program q c.args.target c.requires.target c.in-Err-Member.number r) (c.unmet_at.ensures r.call has (sym r.number_is))
+
+pub returns-in-Err-V-eq1 : goal.returns-in-Err-V-eq1
+returns-in-Err-V-eq1 c =
+    let q = request_of c.args.q.now in
+    let text = c.args.text.now in
+    let test = c.in-Err-V-eq1.field-0-0-test in
+    elim (c.generalize_small.ensures.v c.in-Err-V-eq1.field-0-0 (c.in-Err-V-eq1.is ∙ ap Err c.in-Err-V-eq1.field-0-is)) [
+      | inl none ↦
+          let there = subst (λ (p : Place). HasNoPlace c.args.small.now.names text (unit_plain c.args.small.now.unit) c.args.small.now.declared.world p c.args.target) c.in-Some.ensures.some none.1 in
+          refused_by q text (refused (codes "V1")) c.refused-in-Err-V-eq1.result (no_place text c.args.small.now c.requires.program q c.args.target c.requires.target there) c.refused-in-Err-V-eq1.ensures
+      | inr three ↦ let k = three.0 in absurd (omega (arith, k, test))
+    ]
+
+pub returns-in-Err-V : goal.returns-in-Err-V
+returns-in-Err-V c =
+    let q = request_of c.args.q.now in
+    let text = c.args.text.now in
+    let test = c.in-Err-V.field-0-0-test in
+    elim (c.generalize_small.ensures.v c.in-Err-V.field-0-0 (c.in-Err-V.is ∙ ap Err c.in-Err-V.field-0-is)) [
+      | inl one ↦ absurd (test.1 one.0)
+      | inr three ↦
+          let low = subst (λ (p : Place). IsNotAbove c.args.small.now.names text (unit_plain c.args.small.now.unit) c.args.small.now.declared.world p c.args.target) c.in-Some.ensures.some three.1 in
+          let line = subst (λ (p : Place). IfOk c.refused_there.result (IsLine (refused_at (codes "V3") q.file p))) c.in-Some.ensures.some c.refused_there.ensures in
+          refused_by q text (refused_at (codes "V3") q.file (asked q)) c.refused_there.result (not_above text c.args.small.now c.requires.program q c.args.target c.requires.target low) line
+    ]

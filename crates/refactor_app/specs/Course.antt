@@ -1,0 +1,48 @@
+-- The ways that a call goes, each with what it puts last and how it ends.
+use Rattle.std.specs.Prelude.{◌≡◌, ℕ, ◌⊎◌, List, Option, codes}
+use Rattle.std.specs.String.{string_bytes}
+use Rattle.refactor_app.specs.declared.decide.Changed.{Changed}
+use Rattle.tool_files.specs.Told.{Look, Rose, SameBut, WhereTold, PutsAt}
+use Rattle.edit_writer.specs.declared.edits.Edit.{Edit}
+use Rattle.report_text.specs.Report.{refused, edit_report, missing, read_fault, write_fault}
+use Rattle.refactor_app.specs.declared.status.Status.{Status}
+use Rattle.refactor_app.specs.declared.status.Status.TheVariants as s
+use Rattle.refactor_app.specs.Words.{Request, Asks, out_name}
+use Rattle.refactor_app.specs.Verdicts.{Refuses, Changes}
+use Rattle.refactor_app.specs.Answers.{HasText, IsAbsent, IsThere, Ends}
+
+-- The files before and after, what was put before and after, and each count before and after.
+pub record Moment : Type 0 where
+  pub holds : Option Look
+  pub misses : ℕ
+  pub read_faults : ℕ
+  pub write_faults : ℕ
+  pub put : Option (List ℕ)
+  pub faults : ℕ
+
+abbrev pub EndsAt : Moment → Moment → List ℕ → Status → Status → Type 0
+EndsAt a b = Ends a.put b.put a.faults b.faults
+
+pub data Course (words : List (List ℕ)) (a b : Moment) (status : Status) : Type 0 where
+  no_request : ((q : Request) → Asks words q → ⊥) → b.holds ≡ a.holds → EndsAt a b (refused (codes "N1")) s.Refused status → Course words a b status
+  absent : {q : Request} → Asks words q → IsAbsent a.holds q → Rose a.misses b.misses → b.holds ≡ a.holds → EndsAt a b (missing q.file) s.Missing status → Course words a b status
+  unread : {q : Request} → Asks words q → IsThere a.holds q → Rose a.read_faults b.read_faults → b.holds ≡ a.holds → EndsAt a b (read_fault q.file) s.ReadFault status → Course words a b status
+  refuses : {q : Request} {text line : List ℕ} → Asks words q → HasText a.holds q text → Refuses q text line → b.holds ≡ a.holds → EndsAt a b line s.Refused status → Course words a b status
+  writes : {q : Request} {text made : List ℕ} {e : Edit} → Asks words q → HasText a.holds q text → Changes q text made e → WhereTold a.holds b.holds (PutsAt (out_name q) made)
+      → EndsAt a b (edit_report q.file e) s.Done status → Course words a b status
+  fails : {q : Request} {text made : List ℕ} {e : Edit} → Asks words q → HasText a.holds q text → Changes q text made e → WhereTold a.holds b.holds (SameBut (out_name q)) → Rose a.write_faults b.write_faults
+      → EndsAt a b (write_fault (out_name q)) s.WriteFault status → Course words a b status
+  no_memory : b.holds ≡ a.holds → b.put ≡ a.put → status ≡ s.NoMemory → Course words a b status
+
+-- the write went well and the report is put, or it failed and the fault is
+abbrev pub Finishes : Option Look → Option Look → ℕ → ℕ → Changed → (List ℕ → Status → Status → Type 0) → Status → Type 0
+Finishes old new before after c ends status =
+    (WhereTold old new (PutsAt (string_bytes c.name) c.text.items) × ends (string_bytes c.report) s.Done status)
+    ⊎ (WhereTold old new (SameBut (string_bytes c.name)) × Rose before after × ends (string_bytes c.fault) s.WriteFault status)
+
+-- how a request on a text goes on
+pub data Sequel (q : Request) (text : List ℕ) (a b : Moment) (status : Status) : Type 0 where
+  refuses : {line : List ℕ} → Refuses q text line → b.holds ≡ a.holds → EndsAt a b line s.Refused status → Sequel q text a b status
+  writes : {made : List ℕ} {e : Edit} → Changes q text made e → WhereTold a.holds b.holds (PutsAt (out_name q) made) → EndsAt a b (edit_report q.file e) s.Done status → Sequel q text a b status
+  fails : {made : List ℕ} {e : Edit} → Changes q text made e → WhereTold a.holds b.holds (SameBut (out_name q)) → Rose a.write_faults b.write_faults → EndsAt a b (write_fault (out_name q)) s.WriteFault status → Sequel q text a b status
+  no_memory : b.holds ≡ a.holds → b.put ≡ a.put → status ≡ s.NoMemory → Sequel q text a b status

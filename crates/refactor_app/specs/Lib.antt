@@ -1,0 +1,9 @@
+pub mod Words
+pub mod Asked
+pub mod Numbers
+pub mod Program
+pub mod Verdicts
+pub mod Decided
+pub mod Small
+pub mod Answers
+pub mod Course

@@ -1,0 +1,32 @@
+-- Small programs, as the code has them.
+use Rattle.std.specs.Prelude.{◌≡◌, ℕ, ◌≤◌, List, [], length}
+use Rattle.java_tree.specs.View.{unit_plain}
+use Rattle.java_tree.specs.declared.tree.SourceUnit.{SourceUnit}
+use Rattle.java_lexer.specs.declared.token.Tok.{Tok}
+use Rattle.java_lexer.specs.Lexing.{LexesFirst}
+use Rattle.java_parse_decl.specs.Grammar.{Spells}
+use Rattle.java_typing.specs.WorldOf.{world_of}
+use Rattle.java_typing.specs.Typing.{StepsHold}
+use Rattle.decl_table.specs.Built.{IsBuilt}
+use Rattle.refactor_app.specs.declared.program.Small.{Small}
+use Rattle.refactor_app.specs.Program.{Program, IsRead, IsSmall, IsTypeNamed}
+
+abbrev pub HasTokens : List ℕ → List (List ℕ) → List Tok → Type 0
+HasTokens text names ts = LexesFirst names text ts
+
+abbrev pub program_of : List (List ℕ) → List Tok → SourceUnit → Program
+program_of names ts u = record { names = names; toks = ts; unit = unit_plain u }
+
+abbrev pub HasTree : List ℕ → List (List ℕ) → SourceUnit → Type 0
+HasTree text names u = (ts : List Tok) × IsRead text (program_of names ts u)
+
+-- the text's program, with its world
+abbrev pub IsProgramOf : List ℕ → Small → Type 0
+IsProgramOf text s = (ts : List Tok) × IsSmall text (program_of s.names ts s.unit) × IsBuilt s.names (unit_plain s.unit) s.declared
+
+abbrev pub IsNoProgram : List ℕ → Type 0
+IsNoProgram text = (p : Program) → IsSmall text p → ⊥
+
+-- the number of the type that a word names
+abbrev pub IsTarget : Small → List ℕ → ℕ → Type 0
+IsTarget s word c = IsTypeNamed (program_of s.names [] s.unit) word c

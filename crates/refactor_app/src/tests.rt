@@ -1,0 +1,155 @@
+//! The call over files and a sink in memory. The first example changes a local of type B at line 5 and column 5 to A.
+
+use crate::{Status, refactor};
+use java_tree::NoMemory;
+use std::alloc::Global;
+use std::test::Fail;
+use tool_files::{MemFiles, MemSink};
+
+const FIRST: &[u8] = b"class A { void m() { System.out.println(\"a\"); } }
+class B extends A { void m() { System.out.println(\"b\"); } }
+class Main {
+  public static void main(String[] args) {
+    B x = new B();
+    x.m();
+  }
+}
+";
+
+const GENERALIZED: &[u8] = b"class A { void m() { System.out.println(\"a\"); } }
+class B extends A { void m() { System.out.println(\"b\"); } }
+class Main {
+  public static void main(String[] args) {
+    A x = new B();
+    x.m();
+  }
+}
+";
+
+/// `A.java` with this text, room for one more file, and calls that fail.
+fn files(alloc: Global, text: &[u8], fail: &[u32]) -> Result<MemFiles, NoMemory> {
+    let name = String::from_str(alloc, "A.java")?;
+    let bytes = Vec::from_slice(alloc, text)?;
+    let mut list = Vec::new(alloc);
+    list.push((name, bytes))?;
+    let mut files = MemFiles::new(alloc, list, Vec::from_slice(alloc, fail)?)?;
+    files.reserve(1, 4096)?;
+    Ok(files)
+}
+
+/// A sink with room for a report, and puts that fail.
+fn sink(alloc: Global, fail: &[u32]) -> Result<MemSink, NoMemory> {
+    let mut sink = MemSink::new(alloc, Vec::from_slice(alloc, fail)?);
+    sink.reserve(256)?;
+    Ok(sink)
+}
+
+fn words(alloc: Global, line: &str) -> Result<Vec<String>, NoMemory> {
+    let mut words = Vec::new(alloc);
+    for word in line.split(' ') {
+        words.push(String::from_str(alloc, word)?)?;
+    }
+    Ok(words)
+}
+
+const REQUEST: &str = "generalize out A.java 5 5 A -- A.java";
+
+#[test]
+fn generalizes_the_local_of_the_first_example(rt: HostRuntime) -> Result<(), Fail> {
+    let alloc = rt.alloc();
+    let mut files = files(alloc, FIRST, &[])?;
+    let mut out = sink(alloc, &[])?;
+    let words = words(alloc, REQUEST)?;
+    assert_eq!(rt;
+        refactor(alloc, words.as_slice(), &mut files, &mut out),
+        Status::Done
+    );
+    assert_eq!(rt;
+        out.written(),
+        b"edit A.java 170 171 1 A\ndone 1 edits\n".as_slice()
+    );
+    assert_eq!(rt; files.bytes("A.java"), Some(FIRST));
+    assert_eq!(rt; files.bytes("out/A.java"), Some(GENERALIZED));
+    Ok(())
+}
+
+#[test]
+fn each_failing_call_has_its_answer(rt: HostRuntime) -> Result<(), Fail> {
+    let alloc = rt.alloc();
+    let words = words(alloc, REQUEST)?;
+    let mut unread = files(alloc, FIRST, &[1])?;
+    let mut out = sink(alloc, &[])?;
+    assert_eq!(rt;
+        refactor(alloc, words.as_slice(), &mut unread, &mut out),
+        Status::ReadFault
+    );
+    assert_eq!(rt; out.written(), b"read fault A.java\n".as_slice());
+    assert_eq!(rt; unread.bytes("out/A.java"), None);
+    let mut unwritten = files(alloc, FIRST, &[2])?;
+    let mut out = sink(alloc, &[])?;
+    assert_eq!(rt;
+        refactor(alloc, words.as_slice(), &mut unwritten, &mut out),
+        Status::WriteFault
+    );
+    assert_eq!(rt; out.written(), b"write fault out/A.java\n".as_slice());
+    assert_eq!(rt; unwritten.bytes("out/A.java"), None);
+    let mut unput = files(alloc, FIRST, &[])?;
+    let mut out = sink(alloc, &[1])?;
+    assert_eq!(rt;
+        refactor(alloc, words.as_slice(), &mut unput, &mut out),
+        Status::OutFault
+    );
+    assert_eq!(rt; out.written(), b"".as_slice());
+    assert_eq!(rt; unput.bytes("out/A.java"), Some(GENERALIZED));
+    Ok(())
+}
+
+/// Whether these words are refused on this text with this report, and nothing is written.
+fn refuses(alloc: Global, text: &[u8], line: &str, report: &[u8]) -> Result<bool, NoMemory> {
+    let mut files = files(alloc, text, &[])?;
+    let mut out = sink(alloc, &[])?;
+    let words = words(alloc, line)?;
+    let status = refactor(alloc, words.as_slice(), &mut files, &mut out);
+    let is_unwritten = files.bytes("out/A.java").is_none();
+    Ok(status == Status::Refused && is_unwritten && out.written() == report)
+}
+
+/// `A` has no method, so a call on a local of type A chooses none.
+const MEMBER: &[u8] = b"class A { }
+class B extends A { void m() { System.out.println(\"b\"); } }
+class Main { public static void main(String[] args) { B x = new B(); x.m(); } }
+";
+
+#[test]
+fn each_refusal_has_its_line(rt: HostRuntime) -> Result<(), Fail> {
+    let alloc = rt.alloc();
+    assert!(rt; refuses(alloc, FIRST, "extract A.java", b"refused N1 -\n")?);
+    assert!(rt; refuses(alloc, b"class A { int n; }\n", REQUEST, b"refused N2 -\n")?);
+    let unknown = "generalize out A.java 5 5 C -- A.java";
+    assert!(rt; refuses(alloc, FIRST, unknown, b"refused N2 -\n")?);
+    let nowhere = "generalize out A.java 5 6 A -- A.java";
+    assert!(rt; refuses(alloc, FIRST, nowhere, b"refused V1 -\n")?);
+    let far = "generalize out A.java 4294967301 5 A -- A.java";
+    assert!(rt; refuses(alloc, FIRST, far, b"refused V1 -\n")?);
+    let same = "generalize out A.java 5 5 B -- A.java";
+    assert!(rt; refuses(alloc, FIRST, same, b"refused V3 A.java:5:5\n")?);
+    let object = "generalize out A.java 5 5 Object -- A.java";
+    assert!(rt; refuses(alloc, FIRST, object, b"refused MEMBER A.java:6:5\n")?);
+    let there = "generalize out A.java 3 55 A -- A.java";
+    assert!(rt; refuses(alloc, MEMBER, there, b"refused MEMBER A.java:3:70\n")?);
+    Ok(())
+}
+
+#[test]
+fn a_missing_file_is_named(rt: HostRuntime) -> Result<(), Fail> {
+    let alloc = rt.alloc();
+    let mut files = files(alloc, FIRST, &[])?;
+    let mut out = sink(alloc, &[])?;
+    let words = words(alloc, "generalize out No.java 1 1 A -- No.java")?;
+    assert_eq!(rt;
+        refactor(alloc, words.as_slice(), &mut files, &mut out),
+        Status::Missing
+    );
+    assert_eq!(rt; out.written(), b"missing No.java\n".as_slice());
+    Ok(())
+}
