@@ -15,19 +15,19 @@ use Rattle.java_typing.specs.Typing.{Local, Annotation, Annotates, StepsHold, Is
 use Rattle.check_decl.proofs.Steps.{LocalSays, CallSays, local_says, says_local, call_says, says_call, steps_of_main}
 
 -- the table with one entry more
-abbrev put : {A : Type 0} → ℕ → A → (ℕ → Option A) → ℕ → Option A
+abbrev pub put : {A : Type 0} → ℕ → A → (ℕ → Option A) → ℕ → Option A
 put k x f m = if m == k then Some x else f m
 
-put_here : {A : Type 0} (k : ℕ) (x : A) (f : ℕ → Option A) → put k x f k ≡ Some x
+pub put_here : {A : Type 0} (k : ℕ) (x : A) (f : ℕ → Option A) → put k x f k ≡ Some x
 put_here k x f = grind (arith, nat_tests)
 
-put_else : {A : Type 0} (k : ℕ) (x : A) (f : ℕ → Option A) (m : ℕ) → (m ≡ k → ⊥) → put k x f m ≡ f m
+pub put_else : {A : Type 0} (k : ℕ) (x : A) (f : ℕ → Option A) (m : ℕ) → (m ≡ k → ⊥) → put k x f m ≡ f m
 put_else k x f m h = grind (arith, nat_tests)
 
 -- from node n on, the second annotation says what the first one says
-record Keeps (n : ℕ) (a b : Annotation) : Type 0 where
-  types : (m : ℕ) → n ≤ m → b.type_at m ≡ a.type_at m
-  uses : (m : ℕ) → n ≤ m → b.use_at m ≡ a.use_at m
+pub record Keeps (n : ℕ) (a b : Annotation) : Type 0 where
+  pub types : (m : ℕ) → n ≤ m → b.type_at m ≡ a.type_at m
+  pub uses : (m : ℕ) → n ≤ m → b.use_at m ≡ a.use_at m
 
 abbrev pub Typed : Annotation → ℕ → JavaType → Type 0
 Typed a n x = a.type_at n ≡ Some x
@@ -35,10 +35,10 @@ Typed a n x = a.type_at n ≡ Some x
 abbrev pub Used : Annotation → ℕ → Use → Type 0
 Used a n x = a.use_at n ≡ Some x
 
-abbrev free : ℕ → JavaType → Type 0
+abbrev pub free : ℕ → JavaType → Type 0
 free n x = Unit {0}
 
-abbrev unused : ℕ → Use → Type 0
+abbrev pub unused : ℕ → Use → Type 0
 unused n x = Unit {0}
 
 module _ (names : List (List ℕ)) (ts : List Tok) (u : SourceUnit) (w : World) where
@@ -77,10 +77,10 @@ module _ (names : List (List ℕ)) (ts : List Tok) (u : SourceUnit) (w : World) 
         uses = k.uses (n + 1) (omega arith) ∙ s.uses;
       }))
 
-  later : (n k : ℕ) (a b : Annotation) → n ≤ k → Keeps n a b → Keeps k a b
+  pub later : (n k : ℕ) (a b : Annotation) → n ≤ k → Keeps n a b → Keeps k a b
   later n k a b le h = record { types = λ m l. h.types m (omega arith); uses = λ m l. h.uses m (omega arith) }
 
-  all_kept : (xs : Stmts) (n i j : ℕ) (ls : List Local) (a b : Annotation) → AreSteps names ts n xs i j → Keeps n a b → SayAll a ls xs → SayAll b ls xs
+  pub all_kept : (xs : Stmts) (n i j : ℕ) (ls : List Local) (a b : Annotation) → AreSteps names ts n xs i j → Keeps n a b → SayAll a ls xs → SayAll b ls xs
   all_kept t.Last n i j ls a b steps k h = tt
   all_kept (t.Then x xs) n i j ls a b (m, step, steps) k (h, hs) =
       (one_kept x n i m ls a b step k h, all_kept xs (n + stmt_nodes x) m j (scope_after u ls x) a b steps (later n (n + stmt_nodes x) a b (omega arith) k) hs)
@@ -137,14 +137,9 @@ module _ (names : List (List ℕ)) (ts : List Tok) (u : SourceUnit) (w : World) 
         };
       })
 
-  all_annotated : (xs : Stmts) (n i j : ℕ) (ls : List Local) → AreSteps names ts n xs i j → AreTyped free unused u w ls xs → (a : Annotation) × SayAll a ls xs
+  pub all_annotated : (xs : Stmts) (n i j : ℕ) (ls : List Local) → AreSteps names ts n xs i j → AreTyped free unused u w ls xs → (a : Annotation) × SayAll a ls xs
   all_annotated t.Last n i j ls steps h = (record { type_at = λ m. None; use_at = λ m. None }, tt)
   all_annotated (t.Then x xs) n i j ls (m, step, steps) (h, hs) =
       let rest : (a : Annotation) × SayAll a (scope_after u ls x) xs = all_annotated xs (n + stmt_nodes x) m j (scope_after u ls x) steps hs in
       let all = with_one x n i m ls rest.0 step h in
       (all.tables, (all.says, all_kept xs (n + stmt_nodes x) m j (scope_after u ls x) rest.0 all.tables steps all.keeps rest.1))
-
-  pub annotated : Spells names ts u → StepsHold u w → (a : Annotation) × Annotates a u w
-  annotated s h =
-      let m = steps_of_main names ts u s in
-      all_annotated _ m.node m.from m.to _ m.steps h

@@ -1,5 +1,6 @@
 pub mod Steps
 pub mod Annotated
+pub mod Prints
 pub mod Constructors
 pub mod Names
 pub mod Values

@@ -66,4 +66,4 @@ module _ (names : List (List ℕ)) (ts : List Tok) (u : SourceUnit) (s : Spells 
   pub one_annotation : Annotates a u (world_of u) → Annotates b u (world_of u) → (x : Stmt) → HasStmt (main_steps u) x → AgreeIn a b x
   one_annotation h k =
       let m = steps_of_main names ts u s in
-      all_agree _ m.node m.from m.to _ m.steps h k
+      all_agree _ m.node m.from m.to _ m.steps h.0 k.0

@@ -1,9 +1,9 @@
--- The typing of main in a small program, statement by statement and form by form.
+-- The typing of a small program, statement by statement and form by form.
 use Rattle.std.specs.Prelude.{◌≡◌, ℕ, Bool, true, if◌then◌else◌, ◌==◌, List, [], ◌∷◌, Option, Some, None, slice_get, option_and_then, unwrap_or}
 use Rattle.java_tree.specs.declared.tree.Name.{Name}
 use Rattle.java_tree.specs.declared.tree.Node.{Node}
 use Rattle.java_tree.specs.Plain as t
-use Rattle.java_tree.specs.Plain.{TypeExpr, Expr, Var, Param, Stmt, Stmts, SourceUnit}
+use Rattle.java_tree.specs.Plain.{TypeExpr, Expr, Var, Param, Stmt, Stmts, Member, TypeDecl, SourceUnit}
 use Rattle.class_world.specs.declared.world.World.{World}
 use Rattle.class_world.specs.declared.world.MethodInfo.{MethodInfo}
 use Rattle.class_world.specs.declared.world.JavaType.{JavaType}
@@ -12,7 +12,7 @@ use Rattle.class_world.specs.Subtypes.{Subtype}
 use Rattle.class_world.specs.Members.{IsChosen}
 use Rattle.java_typing.specs.declared.table.Use.{Use}
 use Rattle.java_typing.specs.declared.table.Use.TheVariants as use_of
-use Rattle.java_typing.specs.Main.{main_method, main_steps, params_of}
+use Rattle.java_typing.specs.Main.{before_last, main_method, main_steps, params_of, statements}
 use Rattle.java_typing.specs.WorldOf.{class_named, simple_name, param_type}
 
 -- a local or parameter in scope: its name, the number of its node, its type
@@ -73,6 +73,27 @@ module _ (typed : ℕ → JavaType → Type 0) (used : ℕ → Use → Type 0) (
   abbrev pub IsMainTyped : Type 0
   IsMainTyped = AreTyped (params_in (params_of (main_method u))) (main_steps u)
 
+-- T22, T28: in a Print the literal is a String, and System.out a PrintStream. A call of println has no value. The world of a small file
+-- numbers no field or method of a built-in type, so nothing is said here of what `out` and `println` use.
+module _ (typed : ℕ → JavaType → Type 0) where
+  abbrev pub IsPrintTyped : Stmt → Type 0
+  IsPrintTyped (t.Value n (t.Call c (t.AnExpr (t.Field f of out)) m (t.Also (t.Text k text) t.End))) = typed f.id (ty.Class 3 []) × typed k.id (ty.Class 1 [])
+  IsPrintTyped _ = ⊥
+
+  abbrev pub ArePrintsTyped : Stmts → Type 0
+  ArePrintsTyped t.Last = Unit {0}
+  ArePrintsTyped (t.Then x xs) = IsPrintTyped x × ArePrintsTyped xs
+
+  abbrev pub AreBodiesTyped : List Member → Type 0
+  AreBodiesTyped [] = Unit {0}
+  AreBodiesTyped (t.AField f ∷ ms) = AreBodiesTyped ms
+  AreBodiesTyped (t.AMethod m ∷ ms) = ArePrintsTyped (statements m.body) × AreBodiesTyped ms
+
+  -- the methods of these classes
+  abbrev pub AreClassesTyped : List TypeDecl → Type 0
+  AreClassesTyped [] = Unit {0}
+  AreClassesTyped (d ∷ ds) = AreBodiesTyped d.members × AreClassesTyped ds
+
 -- no rule on main's statements is broken
 abbrev pub StepsHold : SourceUnit → World → Type 0
 StepsHold = IsMainTyped (λ n a. Unit {0}) (λ n x. Unit {0})
@@ -83,4 +104,4 @@ pub record Annotation : Type 0 where
   pub use_at : ℕ → Option Use
 
 abbrev pub Annotates : Annotation → SourceUnit → World → Type 0
-Annotates a = IsMainTyped (λ n x. a.type_at n ≡ Some x) (λ n x. a.use_at n ≡ Some x)
+Annotates a u w = IsMainTyped (λ n x. a.type_at n ≡ Some x) (λ n x. a.use_at n ≡ Some x) u w × AreClassesTyped (λ n x. a.type_at n ≡ Some x) (before_last u.types)

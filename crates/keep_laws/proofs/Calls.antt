@@ -222,7 +222,7 @@ module _ (names : List (List ℕ)) (ts : List Tok) (c : Change) (u : SourceUnit)
       → HasStmt (main_steps u) (call_on stmt call receiver y m) → CallKeeps w x target a b call receiver y m
   calls_kept tree apart is old new stmt call receiver y m has =
       calls_alike tree apart is main.is.body (main.number + 5) (main.place + 14) main.is.end main.is.steps among start new_start alike scope
-      (subst (Steps start) body old) (subst (NewSteps new_start) (main_steps_changed c u ∙ ap (stmts c) body) new) stmt call receiver y m
+      (subst (Steps start) body old.0) (subst (NewSteps new_start) (main_steps_changed c u ∙ ap (stmts c) body) new.0) stmt call receiver y m
       (subst (λ xs. HasStmt xs (call_on stmt call receiver y m)) body has)
     where
       main : Main names ts u.types

@@ -2,7 +2,9 @@
 use Rattle.std.proofs.Common.{◌≡◌, ℕ, suc, ◌<◌, List, [], ◌∷◌, length, map, get_or, Option, Some, None, IfSome, IfNone, refl, sym, ◌∙◌, ap, subst, arith}
 use Rattle.std.specs.Prelude.{codes}
 use Rattle.refactor_app.specs.declared.words.Asked.{Asked}
-use Rattle.refactor_app.specs.Words.{Request, AreFit, Asks}
+use Rattle.std.specs.Fmt.{decimal}
+use Rattle.std.proofs.lemmas.Fmt.{decimal_injective}
+use Rattle.refactor_app.specs.Words.{Request, AreFit, Asks, IsNumber}
 use Rattle.refactor_app.specs.Asked.{request_of}
 
 pub eight : {X : Type 0} (ws : List X) (a b c d e f g h : X) → length ws ≡ 8 → a ≡ get_or ws 0 a → b ≡ get_or ws 1 b → c ≡ get_or ws 2 c → d ≡ get_or ws 3 d
@@ -42,3 +44,21 @@ eight_long f xs q a = sym (length-map f xs) ∙ ap length a.are
     length-map : {X : Type 0} (f : X → List ℕ) (xs : List X) → length (map f xs) ≡ length xs
     length-map f [] = refl
     length-map f (x ∷ xs) = ap suc (length-map f xs)
+
+one_number : (w : List ℕ) (m n : ℕ) → IsNumber w m → IsNumber w n → m ≡ n
+one_number w m n a b = decimal_injective m n (omega (arith, a.2)) (omega (arith, b.2)) (sym a.0 ∙ b.0)
+
+same_request : (a b : Request) → a.out ≡ b.out → a.file ≡ b.file → a.line ≡ b.line → a.col ≡ b.col → a.ty ≡ b.ty → a ≡ b
+same_request a b out file line col ty = rw (out, file, line, col, ty) refl
+
+pub one_request : (ws : List (List ℕ)) (a b : Request) → Asks ws a → Asks ws b → a ≡ b
+one_request ws a b x y =
+    let same : words_of a.out a.file x.line x.col a.ty ≡ words_of b.out b.file y.line y.col b.ty = sym x.are ∙ y.are in
+    let out : a.out ≡ b.out = cc in
+    let file : a.file ≡ b.file = cc in
+    let line : x.line ≡ y.line = cc in
+    let col : x.col ≡ y.col = cc in
+    let ty : a.ty ≡ b.ty = cc in
+    let line_is = one_number x.line a.line b.line x.fit.at_line (subst (λ (w : List ℕ). IsNumber w b.line) (sym line) y.fit.at_line) in
+    let col_is = one_number x.col a.col b.col x.fit.at_col (subst (λ (w : List ℕ). IsNumber w b.col) (sym col) y.fit.at_col) in
+    same_request a b out file line_is col_is ty

@@ -27,7 +27,7 @@ use Rattle.tree_edit.proofs.Moved.{generalized_spells}
 use Rattle.tree_edit.proofs.MainSteps.{local_token}
 use Rattle.keep_laws.specs.Kept.{IsNameOf, AllAnswered}
 use Rattle.keep_laws.proofs.Kept.{generalize_keeps}
-use Rattle.check_decl.proofs.Annotated.{annotated}
+use Rattle.check_decl.proofs.Prints.{annotated}
 use Rattle.generalize_type.specs.declared.small.SmallEdit.{SmallEdit}
 use Rattle.generalize_type.specs.Plans.{IsPlan}
 use Rattle.generalize_type.proofs.Types.{step_called}

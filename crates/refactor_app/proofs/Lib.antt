@@ -5,3 +5,4 @@ pub mod Answering
 pub mod Smalls
 pub mod Changing
 pub mod Deciding
+pub mod OneVerdict

@@ -3,6 +3,7 @@
 
 mod call;
 mod decide;
+pub mod laws;
 mod program;
 mod status;
 mod words;

@@ -153,3 +153,84 @@ fn a_missing_file_is_named(rt: HostRuntime) -> Result<(), Fail> {
     assert_eq!(rt; out.written(), b"missing No.java\n".as_slice());
     Ok(())
 }
+
+/// A program with these classes and these statements in main.
+fn program(alloc: Global, classes: &str, statements: &str) -> Result<String, NoMemory> {
+    let mut text = String::from_str(alloc, classes)?;
+    text.push_str(" class Main { public static void main(String[] args) { ")?;
+    text.push_str(statements)?;
+    text.push_str(" } }\n")?;
+    Ok(text)
+}
+
+/// No local's type begins at the first byte, so a small program is refused by the rule on the place.
+const NOWHERE: &str = "generalize out A.java 1 1 Object -- A.java";
+
+/// Programs in which no rule is broken.
+const RIGHT: [(&str, &str); 6] = [
+    ("", ""),
+    (
+        "class A { void m() { } } class B extends A { void n() { } }",
+        "B x = new B(); x.m(); x.n(); A y = new B(); y.m();",
+    ),
+    (
+        "class B extends A { } class A { }",
+        "Object o = new Object(); A b = new B();",
+    ),
+    (
+        "class A { void m() { } } class B extends A { void m() { } }",
+        "B x = new B(); x.m();",
+    ),
+    (
+        "class A { void equals() { } void A() { } }",
+        "A A = new A(); A.A();",
+    ),
+    (
+        "class $a_1 { void println() { System.out.println(\"a // b\"); } }",
+        "$a_1 System = new $a_1(); System.println();",
+    ),
+];
+
+/// Programs in which one rule is broken.
+const WRONG: [(&str, &str); 20] = [
+    ("class A { } class A { }", ""),
+    ("class String { }", ""),
+    ("class Main { }", ""),
+    ("class java { }", ""),
+    ("class A extends A { }", ""),
+    ("class A extends B { } class B extends A { }", ""),
+    ("class A extends Object { }", ""),
+    ("class A { void wait() { } }", ""),
+    ("class A { void toString() { } }", ""),
+    ("class A { void main() { } }", ""),
+    ("class A { void m() { } void m() { } }", ""),
+    ("class A { int n; }", ""),
+    ("class A { }", "A x = new Object();"),
+    ("class A { }", "A x = new A(); A x = new A();"),
+    ("class A { }", "A args = new A();"),
+    ("class A { void m() { } }", "x.m();"),
+    ("class A { void m() { } }", "args.m();"),
+    ("class A { void m() { } }", "Object x = new A(); x.m();"),
+    ("class A { }", "A x = new A(); x.notify();"),
+    ("class A { }", "Object x = new Main();"),
+];
+
+#[test]
+fn programs_are_checked(rt: HostRuntime) -> Result<(), Fail> {
+    let alloc = rt.alloc();
+    for (classes, statements) in RIGHT {
+        let text = program(alloc, classes, statements)?;
+        assert!(rt;
+            refuses(alloc, text.as_bytes(), NOWHERE, b"refused V1 -\n")?,
+            "{text}"
+        );
+    }
+    for (classes, statements) in WRONG {
+        let text = program(alloc, classes, statements)?;
+        assert!(rt;
+            refuses(alloc, text.as_bytes(), NOWHERE, b"refused N2 -\n")?,
+            "{text}"
+        );
+    }
+    Ok(())
+}

@@ -1,4 +1,4 @@
-use Rattle.check_decl.proofs.Annotated.{annotated}
+use Rattle.check_decl.proofs.Prints.{annotated}
 use Rattle.check_decl.proofs.laws.annotated.Goals as goal
 
 pub returns : goal.returns
