@@ -18,9 +18,10 @@ module _ (a b : Annotation) where
   AgreeIn (t.Value n e) = AgreeOn e
   AgreeIn _ = Unit {0}
 
-  -- the literal and System.out
+  -- the literal, System.out and the call
   abbrev pub AgreeOnPrint : Stmt → Type 0
-  AgreeOnPrint (t.Value n (t.Call c (t.AnExpr (t.Field f of out)) m (t.Also (t.Text k text) t.End))) = (a.type_at f.id ≡ b.type_at f.id) × (a.type_at k.id ≡ b.type_at k.id)
+  AgreeOnPrint (t.Value n (t.Call c (t.AnExpr (t.Field f of out)) m (t.Also (t.Text k text) t.End))) =
+      (a.type_at f.id ≡ b.type_at f.id) × (a.type_at k.id ≡ b.type_at k.id) × (a.use_at f.id ≡ b.use_at f.id) × (a.use_at c.id ≡ b.use_at c.id)
   AgreeOnPrint _ = Unit {0}
 
   abbrev pub AgreeOnPrints : Stmts → Type 0

@@ -73,11 +73,11 @@ module _ (typed : ℕ → JavaType → Type 0) (used : ℕ → Use → Type 0) (
   abbrev pub IsMainTyped : Type 0
   IsMainTyped = AreTyped (params_in (params_of (main_method u))) (main_steps u)
 
--- T22, T28: in a Print the literal is a String, and System.out a PrintStream. A call of println has no value. The world of a small file
--- numbers no field or method of a built-in type, so nothing is said here of what `out` and `println` use.
-module _ (typed : ℕ → JavaType → Type 0) where
+-- T22, T28: in a Print the literal is a String, and System.out a PrintStream. A call of println has no value. The world of a small file numbers
+-- no field or method of a built-in type, so `out` and `println` use nothing that has a number.
+module _ (typed : ℕ → JavaType → Type 0) (unused : ℕ → Type 0) where
   abbrev pub IsPrintTyped : Stmt → Type 0
-  IsPrintTyped (t.Value n (t.Call c (t.AnExpr (t.Field f of out)) m (t.Also (t.Text k text) t.End))) = typed f.id (ty.Class 3 []) × typed k.id (ty.Class 1 [])
+  IsPrintTyped (t.Value n (t.Call c (t.AnExpr (t.Field f of out)) m (t.Also (t.Text k text) t.End))) = typed f.id (ty.Class 3 []) × typed k.id (ty.Class 1 []) × unused f.id × unused c.id
   IsPrintTyped _ = ⊥
 
   abbrev pub ArePrintsTyped : Stmts → Type 0
@@ -104,4 +104,4 @@ pub record Annotation : Type 0 where
   pub use_at : ℕ → Option Use
 
 abbrev pub Annotates : Annotation → SourceUnit → World → Type 0
-Annotates a u w = IsMainTyped (λ n x. a.type_at n ≡ Some x) (λ n x. a.use_at n ≡ Some x) u w × AreClassesTyped (λ n x. a.type_at n ≡ Some x) (before_last u.types)
+Annotates a u w = IsMainTyped (λ n x. a.type_at n ≡ Some x) (λ n x. a.use_at n ≡ Some x) u w × AreClassesTyped (λ n x. a.type_at n ≡ Some x) (λ n. a.use_at n ≡ None) (before_last u.types)
