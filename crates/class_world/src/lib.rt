@@ -1,6 +1,7 @@
 //! The declared types, methods and fields of a program, by number, and the questions on them (JLS 3rd edition, 4.10 and 8.4.8).
 #![tactic(auto)]
 
+pub mod laws;
 mod members;
 mod order;
 #[cfg(test)]

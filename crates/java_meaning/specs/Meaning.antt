@@ -59,18 +59,18 @@ abbrev pub variable : Use → State → Outcome Value
 variable (use_of.Local n) s = with_some (held n s.frame) s (λ a. Gives a s)
 variable _ s = misfit s
 
--- A new object of the constructor's class, numbered in order of allocation, on which the constructor is entered.
-abbrev pub created : Place → Use → List Value → State → Outcome Value
-created p (use_of.Method k) xs s = with_some (slice_get p.program.world.methods k) s (λ info.
-    and_then (p.call k (v.Ref (length s.heap)) xs (record s { heap = s.heap ++ (state.Object info.owner [] ∷ []) })) (λ u s'. Gives (v.Ref (length s.heap)) s'))
-created p _ xs s = misfit s
+-- A new object of the constructor's class, numbered in order of allocation, before the arguments are evaluated.
+abbrev pub allocated : Place → Use → State → (ℕ → Value → State → Outcome Value) → Outcome Value
+allocated p (use_of.Method k) s go = with_some (slice_get p.program.world.methods k) s (λ info. go k (v.Ref (length s.heap)) (record s { heap = s.heap ++ (state.Object info.owner [] ∷ []) }))
+allocated p _ s go = misfit s
 
 abbrev mutual
   pub value : Place → Expr → State → Outcome Value
   value p (t.Text n x) s = literal x s
   value p (t.Name n x) s = with_some (p.program.notes.use_at n.id) s (λ u. variable u s)
   value p (t.Field n e f) s = with_some (p.program.notes.type_at n.id) s (λ c. system_out c s)
-  value p (t.New n c xs) s = and_then (values p xs s) (λ ys s. with_some (p.program.notes.use_at n.id) s (λ u. created p u ys s))
+  value p (t.New n c xs) s = with_some (p.program.notes.use_at n.id) s (λ u.
+      allocated p u s (λ k r s. and_then (values p xs s) (λ ys s. and_then (p.call k r ys s) (λ done s. Gives r s))))
   value p (t.Call n of m xs) s = misfit s
   value p (t.Assign n op a b) s = misfit s
   value p (t.Other n) s = misfit s

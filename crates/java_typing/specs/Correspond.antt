@@ -65,6 +65,7 @@ module _ (g g' : Program) where
 
   abbrev pub MemberAlike : Member → Member → Type 0
   MemberAlike (t.AMethod m) (t.AMethod m') = ParamsAlike m.params m'.params × StmtsAlike (statements m.body) (statements m'.body)
+  MemberAlike (t.AField f) (t.AField f') = Unit {0}
   MemberAlike _ _ = ⊥
 
   abbrev pub MembersAlike : List Member → List Member → Type 0

@@ -5,3 +5,4 @@ pub mod Scopes
 pub mod Steps
 pub mod Kept
 pub mod Calls
+pub mod Corresponds

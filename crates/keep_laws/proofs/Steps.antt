@@ -35,7 +35,7 @@ module _ (names : List (List ℕ)) (ts : List Tok) (c : Change) (u : SourceUnit)
     pub kept : Keeps ts c
 
   -- what the local is initialised with whose type is at token i
-  abbrev made_at : ℕ → ℕ → Expr
+  abbrev pub made_at : ℕ → ℕ → Expr
   made_at n i = t.New (node_of names ts (n + 3) (i + 3) (i + 7)) (type_at names ts (n + 4) (i + 4) 0) t.End
 
   -- that local

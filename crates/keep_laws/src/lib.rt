@@ -15,6 +15,7 @@ ghost use Rattle.java_typing.specs.Main.{main_steps, HasStmt};
 ghost use Rattle.java_typing.specs.WorldOf.{world_of};
 ghost use Rattle.java_typing.specs.Declarations.{DeclarationsHold};
 ghost use Rattle.java_typing.specs.Typing.{StepsHold, Annotation, Annotates};
+ghost use Rattle.java_typing.specs.Correspond.{Program, IsProgramOf, Correspond};
 ghost use Rattle.constraint_terms.specs.Effect.{generalized};
 ghost use Rattle.constraint_terms.specs.Question.{Local, Declares};
 ghost use Rattle.tree_edit.specs.Order.{InOrder};
@@ -39,4 +40,12 @@ pub fn calls_keep()
         → (stmt call receiver : Node) (y m : Name)
         → HasStmt (main_steps u) (t.Value stmt (t.Call call (t.AnExpr (t.Name receiver y)) m t.End))
         → CallKeeps (world_of u) x target a b call receiver y m }
+{}
+
+/// Where a file and the changed one are programs, they correspond: the change is seen in the uses of calls on the local alone, and there the new method
+/// is the old one, or one that it overrides (JLS 8.4.8.1).
+pub fn generalize_corresponds()
+    ensures { (names : List (List ℕ)) (ts : List Tok) (u : SourceUnit) (x : Local) (target : ℕ) (c : Change) → InOrder ts → Spells names ts u
+        → Declares u x → c.from ≡ x.head.from → IsNameOf u c.name target → IsClassTree (world_of u) → AreApart (world_of u) → IsBelow (world_of u) x.ty target
+        → (g h : Program) → IsProgramOf u g → IsProgramOf (generalized c u) h → Correspond g h }
 {}

@@ -16,7 +16,13 @@ use Rattle.java_lexer.proofs.ChangeLemmas.{replaced_lexes}
 use Rattle.edit_writer.specs.declared.edits.Edit.{Edit}
 use Rattle.edit_writer.specs.Edits.{edited, AreOrdered}
 use Rattle.class_world.specs.declared.world.World.{World}
-use Rattle.class_world.specs.Subtypes.{IsBelow}
+use Rattle.class_world.specs.Subtypes.{IsBelow, IsClassTree}
+use Rattle.class_world.specs.Members.{AreApart}
+use Rattle.class_world.proofs.Lookups.{lookups_exist}
+use Rattle.java_typing.specs.Correspond.{IsProgramOf}
+use Rattle.java_typing.specs.Correspond as running
+use Rattle.run_laws.proofs.Same.{behave_alike}
+use Rattle.keep_laws.proofs.Corresponds.{corresponds}
 use Rattle.edit_writer.specs.declared.places.Place.{Place}
 use Rattle.java_typing.specs.WorldOf.{world_of}
 use Rattle.java_typing.specs.Typing.{Annotation, Annotates}
@@ -61,13 +67,19 @@ named names text u w at target n word e same is there plan =
     let written : slice_get names n ≡ Some e.text = subst (λ (x : Name). slice_get names x.0 ≡ Some e.text) name plan.written in
     cc (written, there)
 
+-- a checked program can be run
+has_run : (u : SourceUnit) (w : World) → w ≡ world_of u → IsClassTree w → AreApart w → (a : Annotation) × Annotates a u w → (g : running.Program) × IsProgramOf u g
+has_run u w same tree apart notes =
+    let lookups = lookups_exist w tree apart in
+    (record { unit = u; world = w; notes = notes.0; find = lookups.0 }, record { unit = refl; world = same; annotates = notes.1; lookups = lookups.1 })
+
 span_is : (s : Span) (a b : ℕ) → a ≡ s.from → b ≡ s.to → s ≡ record { from = a; to = b }
 span_is s a b from to = rw (from, to) refl
 
 module _ (q : Request) (text : List ℕ) (p : Program) (w : World) (target : ℕ) (e : SmallEdit) where
-  pub changes : (small : IsSmall text p) (named_is : IsTypeNamed p q.ty target) → IsIdentifier q.ty → w ≡ world_of p.unit → IsPlan p.names text p.unit w (asked q) target e
+  pub changes : (small : IsSmall text p) (named_is : IsTypeNamed p q.ty target) → IsIdentifier q.ty → w ≡ world_of p.unit → IsClassTree w → IsPlan p.names text p.unit w (asked q) target e
       → (new : List ℕ) → new ≡ edited (edit_of e ∷ []) text → Changes q text new (edit_of e)
-  changes small named_is identifier same plan new made =
+  changes small named_is identifier same tree_w plan new made =
       let lexes = small.read.lexes.lexes in
       let spells = small.read.spells in
       let order = order_of p.names text p.toks lexes in
@@ -88,6 +100,11 @@ module _ (q : Request) (text : List ℕ) (p : Program) (w : World) (target : ℕ
       let lexed_at = subst (λ (x : ℕ). Lexes p.names (replaced x e.to e.text text) (map (moved_tok (record { from = x; to = e.to; len = length e.text; name = named_is.0 })) p.toks)) from
       (subst (λ (y : ℕ). Lexes p.names (replaced tok.1.span.from y e.text text) (map (moved_tok (record { from = tok.1.span.from; to = y; len = length e.text; name = named_is.0 })) p.toks)) to lexed) in
       let whole : replaced e.from e.to e.text text ≡ new = one_edit (edit_of e) text ∙ sym made in
+      let tree = subst IsClassTree same tree_w in
+      let tree_after = subst IsClassTree (sym keeps.0) tree in
+      let apart = small.checked.declarations.apart in
+      let notes = annotated p.names p.toks p.unit (world_of p.unit) spells small.checked.steps in
+      let notes_after = annotated p.names (map (moved_tok c) p.toks) (generalized c p.unit) (world_of (generalized c p.unit)) spelled keeps.2 in
       let after : Program = record { names = p.names; toks = map (moved_tok c) p.toks; unit = generalized c p.unit } in
       record {
         old = p;
@@ -107,5 +124,12 @@ module _ (q : Request) (text : List ℕ) (p : Program) (w : World) (target : ℕ
         tree = refl;
         read = record { table = refl; lexes = subst (λ (x : List ℕ). Lexes p.names x (map (moved_tok c) p.toks)) whole lexed_at; spells = spelled };
         checked = record { declarations = keeps.1; steps = keeps.2 };
-        annotated = (annotated p.names p.toks p.unit (world_of p.unit) spells small.checked.steps, annotated p.names (map (moved_tok c) p.toks) (generalized c p.unit) (world_of (generalized c p.unit)) spelled keeps.2);
+        annotated = (notes, notes_after);
+        run = (
+          has_run p.unit (world_of p.unit) refl tree apart notes,
+          has_run (generalized c p.unit) (world_of (generalized c p.unit)) refl tree_after keeps.1.apart notes_after,
+        );
+        behave = λ g h is_g is_h.
+            behave_alike g h (subst IsClassTree (sym is_g.world) tree) (subst AreApart (sym is_g.world) apart)
+            (corresponds p.names p.toks p.unit plan.x target c order spells d plan.from named_is.2 tree apart below g h is_g is_h);
       }

@@ -134,6 +134,7 @@ module _ (text : List ℕ) (s : Small) (is : IsProgramOf text s) where
       named = to;
       word = word;
       is_world = is.2.world;
+      tree = is.2.tree;
       plan = plan;
     }
 

@@ -4,6 +4,7 @@ use Rattle.std.specs.String.{string_bytes}
 use Rattle.java_lexer.specs.Pieces.{IsIdentifier}
 use Rattle.edit_writer.specs.declared.edits.Edit.{Edit}
 use Rattle.class_world.specs.declared.world.World.{World}
+use Rattle.class_world.specs.Subtypes.{IsClassTree}
 use Rattle.java_typing.specs.WorldOf.{world_of}
 use Rattle.generalize_type.specs.declared.small.SmallEdit.{SmallEdit}
 use Rattle.generalize_type.specs.Plans.{IsPlan}
@@ -40,4 +41,5 @@ pub record IsPlanned (q : Request) (text : List ℕ) (e : SmallEdit) : Type 0 wh
   pub named : IsTypeNamed program q.ty target
   pub word : IsIdentifier q.ty
   pub is_world : world ≡ world_of program.unit
+  pub tree : IsClassTree world
   pub plan : IsPlan program.names text program.unit world (asked q) target e

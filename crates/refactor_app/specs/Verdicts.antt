@@ -8,6 +8,9 @@ use Rattle.edit_writer.specs.Edits.{edited}
 use Rattle.java_lexer.specs.Replaced.{Change}
 use Rattle.class_world.specs.Subtypes.{IsBelow}
 use Rattle.java_typing.specs.WorldOf.{world_of}
+use Rattle.java_typing.specs.Correspond.{IsProgramOf}
+use Rattle.java_typing.specs.Correspond as running
+use Rattle.java_meaning.specs.Alike.{BehaveAlike}
 use Rattle.constraint_terms.specs.Effect.{generalized}
 use Rattle.constraint_terms.specs.Question.{Local, Declares, BeginsAt, IsUnmet, IsFirstUnmet}
 use Rattle.refactor_app.specs.Words.{Request}
@@ -66,3 +69,7 @@ pub record Changes (q : Request) (text new : List ℕ) (e : Edit) : Type 0 where
   pub read : IsReadBy old.names new program
   pub checked : IsChecked program
   pub annotated : IsAnnotated old × IsAnnotated program
+  -- both can be run, with their annotations and the lookups of their methods, and whatever these are, both behave alike: for all arguments and every
+  -- bound they print the same bytes, enter the same methods in the same order, and end alike
+  pub run : ((g : running.Program) × IsProgramOf old.unit g) × ((h : running.Program) × IsProgramOf program.unit h)
+  pub behave : (g h : running.Program) → IsProgramOf old.unit g → IsProgramOf program.unit h → BehaveAlike g h

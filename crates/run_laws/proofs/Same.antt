@@ -17,7 +17,7 @@ use Rattle.java_values.specs.declared.value.Value.TheVariants as v
 use Rattle.java_values.specs.State.{Thing, State, Held}
 use Rattle.java_values.specs.State as state
 use Rattle.java_meaning.specs.Outcome.{Outcome, Gives, Threw, Bound, and_then, misfit, with_some, with_thing, step, step_at, leave, after, throws}
-use Rattle.java_meaning.specs.Meaning.{Place, value, values, performed, statement, all_statements, variable, system_out, created, invoked, called_on, print_line, Body, BuiltIn, Declared, Default, member_body, bodies_from, bodies, super_constructor, bound_to, ran, at_last, enter}
+use Rattle.java_meaning.specs.Meaning.{Place, value, values, performed, statement, all_statements, variable, system_out, allocated, invoked, called_on, print_line, Body, BuiltIn, Declared, Default, member_body, bodies_from, bodies, super_constructor, bound_to, ran, at_last, enter}
 use Rattle.java_meaning.specs.Run.{first_of_last, main_number, run, start, end_of}
 use Rattle.java_meaning.specs.Alike.{BehaveAlike}
 
@@ -71,11 +71,11 @@ module _ (g g' : Program) (tree : IsClassTree g.world) (apart : AreApart g.world
     abbrev here : Place
     here = record { program = g; call = call }
 
-    created_same : (u : Use) (xs : List Value) (s : State) → created there u xs s ≡ created here u xs s
-    created_same (use_of.Method k) xs s = some_same _ _ s _ _ (ap (λ (w : World). slice_get w.methods k) is.worlds) (λ info. then_same _ _ _ _ (calls k _ xs _) (λ u s'. refl))
-    created_same (use_of.Local k) xs s = refl
-    created_same (use_of.Field k) xs s = refl
-    created_same use_of.Length xs s = refl
+    allocated_same : (u : Use) (s : State) (go' go : ℕ → Value → State → Outcome Value) → ((k : ℕ) (r : Value) (s : State) → go' k r s ≡ go k r s) → allocated there u s go' ≡ allocated here u s go
+    allocated_same (use_of.Method k) s go' go h = some_same _ _ s _ _ (ap (λ (w : World). slice_get w.methods k) is.worlds) (λ info. h k _ _)
+    allocated_same (use_of.Local k) s go' go h = refl
+    allocated_same (use_of.Field k) s go' go h = refl
+    allocated_same use_of.Length s go' go h = refl
 
     called_same : (m m' : ℕ) → ((c : ℕ) → g'.find m' c ≡ g.find m c) → (r : Value) (xs : List Value) (x : Thing) (s : State) → called_on there m' r xs x s ≡ called_on here m r xs x s
     called_same m m' found r xs (state.Object c fields) s = some_same _ _ s _ _ (found c) (λ k. calls k r xs s)
@@ -99,7 +99,7 @@ module _ (g g' : Program) (tree : IsClassTree g.world) (apart : AreApart g.world
       value_same alike.text s = refl
       value_same (alike.name e) s = some_same _ _ s _ _ (sym e) (λ u. refl)
       value_same (alike.field e) s = some_same _ _ s _ _ (sym e) (λ c. refl)
-      value_same (alike.new e xs) s = then_same _ _ _ _ (values_same xs s) (λ ys s. some_same _ _ s _ _ (sym e) (λ u. created_same u ys s))
+      value_same (alike.new e xs) s = some_same _ _ s _ _ (sym e) (λ u. allocated_same u s _ _ (λ k r s. then_same _ _ _ _ (values_same xs s) (λ ys s. then_same _ _ _ _ (calls k r ys s) (λ done s. refl))))
       value_same (alike.call u e xs) s = refl
 
       values_same : {xs xs' : Exprs} → ExprsAlike g g' xs xs' → (s : State) → values there xs' s ≡ values here xs s
@@ -162,7 +162,8 @@ module _ (g g' : Program) (tree : IsClassTree g.world) (apart : AreApart g.world
   members_alike (m ∷ ms) [] h = absurd h
   members_alike (t.AMethod m ∷ ms) (t.AMethod k ∷ ks) (h, hs) = more (declared h.0 h.1) (members_alike ms ks hs)
   members_alike (t.AMethod m ∷ ms) (t.AField k ∷ ks) (h, hs) = absurd h
-  members_alike (t.AField m ∷ ms) (k ∷ ks) (h, hs) = absurd h
+  members_alike (t.AField m ∷ ms) (t.AField k ∷ ks) (h, hs) = more built_in (members_alike ms ks hs)
+  members_alike (t.AField m ∷ ms) (t.AMethod k ∷ ks) (h, hs) = absurd h
 
   types_alike : (c : ℕ) (ds es : List TypeDecl) → TypesAlike g g' ds es → ListAlike (bodies_from c ds) (bodies_from c es)
   types_alike c [] [] h = none

@@ -23,7 +23,7 @@ returns c =
     let made = subst (λ (es : List Edit). c.in_ok-text.text.items ≡ edited es c.args.text.now) c.as_slice.ensures c.in_ok-text.ensures in
     record {
       edit = edit_of c.args.edit;
-      changes = changes q c.args.text.now plan.program plan.world plan.target c.args.edit plan.small plan.named plan.word plan.is_world plan.plan c.in_ok-text.text.items made;
+      changes = changes q c.args.text.now plan.program plan.world plan.target c.args.edit plan.small plan.named plan.word plan.is_world plan.tree plan.plan c.in_ok-text.text.items made;
       name = c.in_ok-name.ensures;
       report = c.in_ok-report.ensures;
       fault = c.in_ok-fault.ensures ∙ ap write_fault (c.as_str.ensures.value ∙ c.in_ok-name.ensures);

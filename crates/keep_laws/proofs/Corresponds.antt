@@ -1,0 +1,176 @@
+-- The old and the new program of a change of a local's type correspond.
+use Rattle.std.proofs.Common.{◌≡◌, ℕ, ◌+◌, ◌==◌, ◌⊎◌, inl, inr, Bool, true, false, List, [], ◌∷◌, map, Option, Some, None, refl, sym, ap, subst, ◌∙◌, arith}
+use Rattle.std.specs.Option.{option_map}
+use Rattle.std.proofs.lemmas.Bool.{cases_eq}
+use Rattle.java_tree.specs.declared.tree.Name.{Name}
+use Rattle.java_tree.specs.declared.tree.Node.{Node}
+use Rattle.java_tree.specs.Plain as t
+use Rattle.java_tree.specs.Plain.{Expr, Param, Stmt, Stmts, Member, TypeDecl, SourceUnit}
+use Rattle.java_lexer.specs.declared.token.Tok.{Tok}
+use Rattle.java_lexer.specs.Reads.{from_at}
+use Rattle.java_lexer.specs.Replaced.{Change}
+use Rattle.java_parse_decl.specs.Nodes.{stmt_nodes}
+use Rattle.java_parse_decl.specs.Grammar.{node_of, name_at, type_at, local_at, call_at, main_method, IsStep, AreSteps, Spells}
+use Rattle.class_world.specs.declared.world.World.{World}
+use Rattle.class_world.specs.declared.world.JavaType.{JavaType}
+use Rattle.class_world.specs.declared.world.JavaType.TheVariants as ty
+use Rattle.class_world.specs.Subtypes.{Subtype, IsBelow, IsClassTree, direct, through}
+use Rattle.class_world.specs.Members.{AreApart}
+use Rattle.class_world.specs.Lookup.{IsOrOverrides}
+use Rattle.class_world.proofs.Lookups.{chosen_overrides}
+use Rattle.java_typing.specs.declared.table.Use.{Use}
+use Rattle.java_typing.specs.declared.table.Use.TheVariants as use_of
+use Rattle.java_typing.specs.Main.{main_steps, last_type, before_last, statements, params_of, HasStmt}
+use Rattle.java_typing.specs.Main as main_of
+use Rattle.java_typing.specs.WorldOf.{world_of}
+use Rattle.java_typing.specs.Typing.{Local, scope_after, AreTyped, IsStmtTyped, HasType, params_in, Annotation, Annotates, IsPrintTyped, ArePrintsTyped, AreBodiesTyped, AreClassesTyped, IsConstructor}
+use Rattle.java_typing.specs.Correspond.{Program, IsProgramOf, Correspond, UsesAlike, StmtAlike, StmtsAlike, ParamsAlike, MembersAlike, TypesAlike}
+use Rattle.java_typing.specs.Correspond as alike
+use Rattle.check_decl.proofs.Constructors.{one_constructor, none_declared}
+use Rattle.constraint_terms.specs.Effect.{expr, var, type, param, stmt, stmts, member, decl, generalized}
+use Rattle.constraint_terms.specs.Question as q
+use Rattle.tree_edit.specs.Order.{InOrder}
+use Rattle.tree_edit.proofs.Kept.{main_steps_changed}
+use Rattle.tree_edit.proofs.Standing.{elsewhere_at}
+use Rattle.tree_edit.proofs.MainSteps.{Main, main_is, main_body, local_sorts}
+use Rattle.keep_laws.specs.Kept.{IsNameOf, CallKeeps}
+use Rattle.keep_laws.proofs.SameNames.{step_kept}
+use Rattle.keep_laws.proofs.SameWorld.{unit_alike, world_same}
+use Rattle.keep_laws.proofs.Kept.{changes_local}
+use Rattle.keep_laws.proofs.Steps.{ChangesLocal, made_at}
+use Rattle.keep_laws.proofs.Calls.{calls_keep}
+
+abbrev TypeAt : Annotation → ℕ → JavaType → Type 0
+TypeAt a n x = a.type_at n ≡ Some x
+
+abbrev UseAt : Annotation → ℕ → Use → Type 0
+UseAt a n x = a.use_at n ≡ Some x
+
+abbrev Unused : Annotation → ℕ → Type 0
+Unused a n = a.use_at n ≡ None
+
+module _ (g h : Program) (c : Change) where
+  -- ---- Prints
+
+  print_alike : (x : Stmt) → IsPrintTyped (TypeAt g.notes) (Unused g.notes) x → IsPrintTyped (TypeAt h.notes) (Unused h.notes) (stmt c x) → StmtAlike g h x (stmt c x)
+  print_alike (t.Value n (t.Call k (t.AnExpr (t.Field f of out)) m (t.Also (t.Text l text) t.End))) p r =
+      alike.performs (alike.call (inl (p.3 ∙ sym r.3)) (alike.field (p.0 ∙ sym r.0)) (alike.also alike.text alike.end))
+  print_alike _ p r = absurd p
+
+  prints_alike : (xs : Stmts) → ArePrintsTyped (TypeAt g.notes) (Unused g.notes) xs → ArePrintsTyped (TypeAt h.notes) (Unused h.notes) (stmts c xs) → StmtsAlike g h xs (stmts c xs)
+  prints_alike t.Last p r = alike.last
+  prints_alike (t.Then x xs) (p, ps) (r, rs) = alike.next (print_alike x p r) (prints_alike xs ps rs)
+
+  same_statements : (b : Option Stmt) → statements (option_map (stmt c) b) ≡ stmts c (statements b)
+  same_statements None = refl
+  same_statements (Some (t.Block n xs)) = refl
+  same_statements (Some (t.Local n f ty vs)) = refl
+  same_statements (Some (t.Value n x)) = refl
+  same_statements (Some (t.OtherStmt n)) = refl
+
+  params_alike : (ps : List Param) → ParamsAlike g h ps (map (param c) ps)
+  params_alike [] = tt
+  params_alike (p ∷ ps) = (refl, params_alike ps)
+
+  bodies_alike : (ms : List Member) → AreBodiesTyped (TypeAt g.notes) (Unused g.notes) ms → AreBodiesTyped (TypeAt h.notes) (Unused h.notes) (map (member c) ms) → MembersAlike g h ms (map (member c) ms)
+  bodies_alike [] p r = tt
+  bodies_alike (t.AField f ∷ ms) p r = (tt, bodies_alike ms p r)
+  bodies_alike (t.AMethod m ∷ ms) (p, ps) (r, rs) =
+      let same = same_statements m.body in
+      let prints = prints_alike (statements m.body) p (subst (ArePrintsTyped (TypeAt h.notes) (Unused h.notes)) same r) in
+      ((params_alike m.params, subst (StmtsAlike g h (statements m.body)) (sym same) prints), bodies_alike ms ps rs)
+
+  types_alike : (ds : List TypeDecl) → ((d : TypeDecl) → last_type ds ≡ Some d → MembersAlike g h d.members (map (member c) d.members))
+      → AreClassesTyped (TypeAt g.notes) (Unused g.notes) (before_last ds) → AreClassesTyped (TypeAt h.notes) (Unused h.notes) (before_last (map (decl c) ds)) → TypesAlike g h ds (map (decl c) ds)
+  types_alike [] last p r = tt
+  types_alike (d ∷ []) last p r = (last d refl, tt)
+  types_alike (d ∷ e ∷ ds) last (p, ps) (r, rs) = (bodies_alike d.members p r, types_alike (e ∷ ds) last ps rs)
+
+-- ---- main's statements
+
+module _ (names : List (List ℕ)) (ts : List Tok) (u : SourceUnit) (x : q.Local) (target : ℕ) (c : Change) (is : ChangesLocal names ts c u x target)
+    (tree : IsClassTree (world_of u)) (apart : AreApart (world_of u)) (below : IsBelow (world_of u) x.ty target) (g h : Program) (worlds : g.world ≡ world_of u)
+    (old_notes : Annotates g.notes u (world_of u)) (new_notes : Annotates h.notes (generalized c u) (world_of (generalized c u))) where
+  abbrev Old : List Local → Stmt → Type 0
+  Old = IsStmtTyped (TypeAt g.notes) (UseAt g.notes) u (world_of u)
+
+  abbrev New : List Local → Stmt → Type 0
+  New = IsStmtTyped (TypeAt h.notes) (UseAt h.notes) (generalized c u) (world_of u)
+
+  -- a creation uses the same constructor
+  constructor_same : (n i : ℕ) (ls ms : List Local) → (from_at ts (i + 4) == c.from) ≡ false → Old ls (local_at names ts n i) → New ms (stmt c (local_at names ts n i))
+      → g.notes.use_at (n + 3) ≡ h.notes.use_at (n + 3)
+  constructor_same n i ls ms made (k, step, none, e, init, a, types, sub) (k', step', none', e', init', a', types', sub') =
+      let creation = made_at names ts c u x target n i in
+      let same : e ≡ creation = cc in
+      let same' : e' ≡ expr c creation = cc in
+      let old = subst (λ e. HasType (TypeAt g.notes) (UseAt g.notes) u (world_of u) ls e a) same types in
+      let new = subst (λ e. HasType (TypeAt h.notes) (UseAt h.notes) (generalized c u) (world_of u) ms e a') same' types' in
+      let class : Some old.0 ≡ Some new.0 = sym old.1 ∙ sym (step_kept c names ts u (n + 4) (i + 4) made) ∙ new.1 in
+      let one : old.0 ≡ new.0 = cc in
+      let by = one_constructor u (none_declared names ts u is.spells) old.0 old.4 new.4 old.5 (subst (λ k. IsConstructor (world_of u) k new.4) (sym one) new.5) in
+      old.6 ∙ ap (λ k. Some (use_of.Method k)) by ∙ sym new.6
+
+  -- a call uses the same method, or one that the old one overrides
+  uses_alike : (call receiver : Node) (y m : Name) → CallKeeps (world_of u) x target g.notes h.notes call receiver y m → UsesAlike g.world (g.notes.use_at call.id) (h.notes.use_at call.id)
+  uses_alike call receiver y m k = subst (λ (w : World). UsesAlike w (g.notes.use_at call.id) (h.notes.use_at call.id)) (sym worlds) (elim (cases_eq y.0 x.name.0) [
+    | inr other ↦ inl (k.same_method (λ e. other (ap (λ (n : Name). n.0) e)))
+    | inl e ↦
+        let on : y ≡ x.name = ap (λ (n : ℕ). record { 0 = n }) e in
+        let old = k.old_method on in
+        let new = k.new_method on in
+        elim (chosen_overrides (world_of u) tree apart x.ty target m old.0 new.0 (through (direct below.1) below.2) old.2 new.2) [
+          | inl same ↦ inl (old.1 ∙ ap (λ k. Some (use_of.Method k)) same ∙ sym new.1)
+          | inr o ↦ inr (old.0, new.0, old.1, new.1, o)
+        ]
+  ])
+
+  step_alike : (s : Stmt) (n i j : ℕ) → IsStep names ts n s i j → HasStmt (main_steps u) s → (ls ms : List Local) → Old ls s → New ms (stmt c s) → StmtAlike g h s (stmt c s)
+  step_alike s n i j (inl (stand, tree_is, next)) has ls ms old new =
+      let made = elsewhere_at names ts c is.kept local_sorts i 4 (i + 4) stand refl refl in
+      subst (λ s. Old ls s → New ms (stmt c s) → StmtAlike g h s (stmt c s)) (sym tree_is)
+      (λ old new. alike.local refl refl refl (alike.new (constructor_same n i ls ms made old new) alike.end)) old new
+  step_alike s n i j (inr (stand, tree_is, next)) has ls ms old new =
+      subst (λ s. HasStmt (main_steps u) s → StmtAlike g h s (stmt c s)) (sym tree_is)
+      (λ has.
+      let keeps = calls_keep names ts u x target c is.order is.spells is.declares is.from is.named tree apart g.notes h.notes old_notes new_notes
+      (node_of names ts n i (i + 6)) (node_of names ts (n + 1) i (i + 5)) (node_of names ts (n + 2) i (i + 1)) (name_at names ts i) (name_at names ts (i + 2)) has in
+      alike.performs (alike.call (uses_alike (node_of names ts (n + 1) i (i + 5)) (node_of names ts (n + 2) i (i + 1)) (name_at names ts i) (name_at names ts (i + 2)) keeps)
+      (alike.name keeps.same_local) alike.end)) has
+
+  steps_alike : (xs : Stmts) (n i j : ℕ) → AreSteps names ts n xs i j → ((s : Stmt) → HasStmt xs s → HasStmt (main_steps u) s) → (ls ms : List Local)
+      → AreTyped (TypeAt g.notes) (UseAt g.notes) u (world_of u) ls xs → AreTyped (TypeAt h.notes) (UseAt h.notes) (generalized c u) (world_of u) ms (stmts c xs) → StmtsAlike g h xs (stmts c xs)
+  steps_alike t.Last n i j steps among ls ms old new = alike.last
+  steps_alike (t.Then s ss) n i j (m, step, steps) among ls ms (old, olds) (new, news) =
+      alike.next (step_alike s n i m step (among s (inl refl)) ls ms old new)
+      (steps_alike ss (n + stmt_nodes s) m j steps (λ s has. among s (inr has)) (scope_after u ls s) (scope_after (generalized c u) ms (stmt c s)) olds news)
+
+  main_alike : (d : TypeDecl) → last_type u.types ≡ Some d → MembersAlike g h d.members (map (member c) d.members)
+  main_alike d last =
+      let main = main_is names ts u is.spells in
+      let body = main_body names ts u main in
+      let same_world = world_same names ts c u (unit_alike names ts c u is.kept is.spells) in
+      let news = subst (λ (w : World). Annotates h.notes (generalized c u) w) same_world new_notes in
+      let start : List Local = params_in (TypeAt g.notes) (UseAt g.notes) u (world_of u) (params_of (main_of.main_method u)) in
+      let new_start : List Local = params_in (TypeAt h.notes) (UseAt h.notes) (generalized c u) (world_of u) (params_of (main_of.main_method (generalized c u))) in
+      let steps = steps_alike main.is.body (main.number + 5) (main.place + 14) main.is.end main.is.steps (λ s has. subst (λ xs. HasStmt xs s) (sym body) has) start new_start
+      (subst (AreTyped (TypeAt g.notes) (UseAt g.notes) u (world_of u) start) body old_notes.0)
+      (subst (AreTyped (TypeAt h.notes) (UseAt h.notes) (generalized c u) (world_of u) new_start) (main_steps_changed c u ∙ ap (stmts c) body) news.0) in
+      let same : main.decl ≡ d = cc (main.last, last) in
+      let members = ap (λ (d : TypeDecl). d.members) (sym same ∙ main.is.tree) in
+      subst (λ ms. MembersAlike g h ms (map (member c) ms)) (sym members) (((refl, tt), steps), tt)
+
+pub corresponds : (names : List (List ℕ)) (ts : List Tok) (u : SourceUnit) (x : q.Local) (target : ℕ) (c : Change) → InOrder ts → Spells names ts u → q.Declares u x → c.from ≡ x.head.from
+    → IsNameOf u c.name target → IsClassTree (world_of u) → AreApart (world_of u) → IsBelow (world_of u) x.ty target
+    → (g h : Program) → IsProgramOf u g → IsProgramOf (generalized c u) h → Correspond g h
+corresponds names ts u x target c order spells declares from named tree apart below g h old new =
+    let is = changes_local names ts c u x target order spells declares from named in
+    let same_world = world_same names ts c u (unit_alike names ts c u is.kept spells) in
+    let old_notes : Annotates g.notes u (world_of u) = subst (λ (w : World). Annotates g.notes u w) old.world old.annotates in
+    let new_notes : Annotates h.notes (generalized c u) (world_of (generalized c u)) = subst (λ (w : World). Annotates h.notes (generalized c u) w) new.world new.annotates in
+    let types = types_alike g h c u.types (main_alike names ts u x target c is tree apart below g h old.world old_notes new_notes) old_notes.1 new_notes.1 in
+    record {
+      worlds = new.world ∙ same_world ∙ sym old.world;
+      lookups = (old.lookups, new.lookups);
+      types = subst (λ (v : SourceUnit). TypesAlike g h g.unit.types v.types) (sym new.unit) (subst (λ (v : SourceUnit). TypesAlike g h v.types (generalized c u).types) (sym old.unit) types);
+    }
