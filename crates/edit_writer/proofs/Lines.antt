@@ -1,7 +1,7 @@
 -- Places rise with offsets, so no two bytes have one place.
-use Rattle.std.proofs.Common.{◌≡◌, ℕ, zero, suc, ◌+◌, ◌-◌, ◌<◌, ◌≤◌, ◌⊎◌, inl, inr, Bool, true, false, cond, List, [], ◌∷◌, length, drop, refl, sym, ap, ◌∙◌, subst, arith, add-one}
+use Rattle.std.proofs.Common.{◌≡◌, ℕ, zero, suc, ◌+◌, ◌<◌, ◌≤◌, ◌⊎◌, inl, inr, Bool, true, false, cond, List, [], ◌∷◌, length, refl, sym, ap, arith}
 use Rattle.edit_writer.specs.declared.places.Place.{Place}
-use Rattle.edit_writer.specs.Places.{place_from, place_at, ends_line}
+use Rattle.edit_writer.specs.Places.{place_from, place_at}
 
 -- not further up, and on the same line not further left
 record Further (l c : ℕ) (p : Place) : Type 0 where

@@ -1,5 +1,5 @@
 -- Edits of a text, in order and without overlap: every byte outside them stays.
-use Rattle.std.specs.Prelude.{ℕ, ◌+◌, ◌-◌, ◌≤◌, List, [], ◌∷◌, ◌++◌, take, drop, length}
+use Rattle.std.specs.Prelude.{ℕ, ◌-◌, ◌≤◌, List, [], ◌∷◌, ◌++◌, take, drop}
 use Rattle.edit_writer.specs.declared.edits.Edit.{Edit}
 
 -- what the edits make of the text from the byte `at` on

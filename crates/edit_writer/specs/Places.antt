@@ -1,5 +1,5 @@
 -- Lines and columns. A line ends at LF, at CR, or at CR LF; lines and columns count from 1, and columns count bytes.
-use Rattle.std.specs.Prelude.{ℕ, zero, suc, ◌+◌, Bool, false, true, not, ◌&&◌, ◌||◌, ◌==◌, if◌then◌else◌, List, [], ◌∷◌}
+use Rattle.std.specs.Prelude.{ℕ, zero, suc, ◌+◌, Bool, false, not, ◌&&◌, ◌||◌, ◌==◌, if◌then◌else◌, List, [], ◌∷◌}
 use Rattle.edit_writer.specs.declared.places.Place.{Place}
 
 abbrev pub begins_with_feed : List ℕ → Bool

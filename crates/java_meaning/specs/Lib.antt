@@ -2,3 +2,4 @@ pub mod Outcome
 pub mod Meaning
 pub mod Run
 pub mod Alike
+pub mod Simple

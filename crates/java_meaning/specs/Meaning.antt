@@ -141,11 +141,16 @@ is_plain_constructor (Some info) = info.constructor && no_params info.params
     no_params [] = true
     no_params (x ∷ xs) = false
 
--- the constructor without parameters of a class's superclass, which a default constructor calls
+-- the constructor without parameters among the methods that a class lists
+abbrev pub constructor_of : World → ℕ → Option ℕ
+constructor_of w c = option_and_then (λ info. find (λ k. is_plain_constructor (slice_get w.methods k)) info.methods) (slice_get w.types c)
+
+abbrev pub superclass : World → ℕ → Option ℕ
+superclass w c = option_and_then (λ info. first_class info.supers) (slice_get w.types c)
+
+-- that of a class's superclass, which a default constructor calls
 abbrev pub super_constructor : World → ℕ → Option ℕ
-super_constructor w c =
-    option_and_then (λ info. option_and_then (λ p. option_and_then (λ above. find (λ k. is_plain_constructor (slice_get w.methods k)) above.methods) (slice_get w.types p)) (first_class info.supers))
-    (slice_get w.types c)
+super_constructor w c = option_and_then (λ p. constructor_of w p) (superclass w c)
 
 abbrev pub bound_to : List Param → List Value → List Held
 bound_to (p ∷ ps) (a ∷ ys) = record { node = p.node.id; value = a } ∷ bound_to ps ys

@@ -1,19 +1,18 @@
 -- What is in the grammar is read.
-use Rattle.std.proofs.Common.{◌≡◌, ◌≢◌, ℕ, suc, ◌+◌, ◌<◌, ◌≤◌, Bool, true, false, ◌&&◌, ◌==◌, List, [], ◌∷◌, ◌++◌, length, codes, Option, Some, None, refl, sym, ap, subst, ◌∙◌, arith, ◌⊎◌, inl, inr}
+use Rattle.std.proofs.Common.{◌≡◌, ◌≢◌, ℕ, suc, ◌+◌, ◌<◌, ◌≤◌, true, false, ◌==◌, List, [], ◌∷◌, length, codes, Option, Some, refl, sym, ap, ◌∙◌, arith, inl, inr}
 use Rattle.std.proofs.lemmas.Bool.Decides.{nat_tests}
 use Rattle.java_tree.specs.Plain.{TypeExpr, Stmt, Stmts, Member, TypeDecl, SourceUnit}
 use Rattle.java_tree.specs.View.{stmt_row}
 use Rattle.java_lexer.specs.declared.token.Tok.{Tok}
-use Rattle.java_lexer.specs.declared.token.Sort.{Sort}
 use Rattle.java_lexer.specs.declared.token.Sort.TheVariants as s
 use Rattle.java_lexer.specs.Reads.{sort_at}
 use Rattle.java_parse_decl.specs.Nodes.{stmt_nodes, stmts_nodes, member_nodes, members_nodes, decl_nodes}
-use Rattle.java_parse_decl.specs.Grammar.{ArePrints, Stand, IsCalled, type_at, node_of, print_at, method_at, class_at, local_at, call_at, main_method, IsPrint, IsMethod, IsPlainClass, IsClassBelow, IsClass, IsStep, IsMain, AreTypes, AreMethods, AreSteps, Spells}
+use Rattle.java_parse_decl.specs.Grammar.{ArePrints, type_at, method_at, class_at, main_method, IsPrint, IsMethod, IsClass, IsStep, IsMain, AreTypes, AreMethods, AreSteps, Spells}
 use Rattle.java_parse_decl.specs.Parse as spec
 use Rattle.java_parse_decl.specs.Parse.{◌>>=◌, Read, same_sort, is_at, stand, is_print, is_called, token_text, print, prints, method, methods, class_body, class_below, class, call, step, steps, is_main, main, begins_main, classes}
 use Rattle.java_parse_decl.proofs.Steps.{not_true, is_at_says, is_at_has, is_at_not, are_tokens, stand_says, stand_has, called_has}
-use Rattle.java_parse_decl.proofs.Lists.{Are, total, Comes, are_on, many_comes}
-use Rattle.java_parse_decl.proofs.Forms.{items, row-items, IsPrintTo, print_nodes, prints_items, are_methods, steps_items, Front, are_types, items-total, members-total}
+use Rattle.java_parse_decl.proofs.Lists.{total, Comes, are_on, many_comes}
+use Rattle.java_parse_decl.proofs.Forms.{items, row-items, IsPrintTo, prints_items, are_methods, steps_items, are_types, items-total, members-total}
 
 -- what is to be read of a tree
 abbrev got : {A : Type 0} → A → ℕ → ℕ → Option (Read A)

@@ -1,5 +1,5 @@
 -- Trees one after the other, by what each of them is.
-use Rattle.std.proofs.Common.{◌≡◌, ℕ, zero, suc, ◌+◌, ◌-◌, ◌<◌, ◌≤◌, Bool, true, false, List, [], ◌∷◌, ◌++◌, Option, Some, None, map, cond, refl, sym, ap, subst, ◌∙◌, arith, append_assoc, append-nil}
+use Rattle.std.proofs.Common.{◌≡◌, ℕ, zero, suc, ◌+◌, ◌<◌, ◌≤◌, Bool, true, false, List, [], ◌∷◌, ◌++◌, Option, Some, cond, refl, sym, ap, subst, ◌∙◌, arith, append_assoc, append-nil}
 use Rattle.java_parse_decl.specs.Parse.{◌>>=◌, Read, many}
 use Rattle.java_parse_decl.proofs.Steps.{step_on}
 use Rattle.java_parse_decl.proofs.Turns.{many_end, many_on}

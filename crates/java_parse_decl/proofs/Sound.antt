@@ -1,5 +1,5 @@
 -- What is read is in the grammar.
-use Rattle.std.proofs.Common.{◌≡◌, ℕ, suc, ◌+◌, Bool, true, false, ◌&&◌, ◌==◌, List, [], ◌∷◌, ◌++◌, length, codes, Option, Some, None, refl, sym, ap, subst, ◌∙◌, arith, inl, inr}
+use Rattle.std.proofs.Common.{◌≡◌, ℕ, suc, ◌+◌, ◌&&◌, ◌==◌, List, [], ◌∷◌, ◌++◌, length, codes, Some, refl, sym, ap, subst, ◌∙◌, arith, inl, inr}
 use Rattle.std.proofs.lemmas.Bool.Decides.{nat_tests}
 use Rattle.java_tree.specs.Plain.{TypeExpr, Stmt, Member, TypeDecl, SourceUnit}
 use Rattle.java_tree.specs.View.{stmt_row}
@@ -7,11 +7,11 @@ use Rattle.java_lexer.specs.declared.token.Tok.{Tok}
 use Rattle.java_lexer.specs.declared.token.Sort.TheVariants as s
 use Rattle.java_lexer.specs.Reads.{sort_at}
 use Rattle.java_parse_decl.specs.Nodes.{stmt_nodes, member_nodes, members_nodes, decl_nodes}
-use Rattle.java_parse_decl.specs.Grammar.{type_at, node_of, print_at, method_at, class_at, local_at, call_at, main_method, IsPrint, IsMethod, IsPlainClass, IsClassBelow, IsClass, IsStep, IsMain, AreTypes, AreMethods, AreSteps, Spells}
+use Rattle.java_parse_decl.specs.Grammar.{type_at, node_of, print_at, method_at, class_at, local_at, call_at, main_method, IsMethod, IsClass, IsStep, IsMain, AreTypes, AreMethods, Spells}
 use Rattle.java_parse_decl.specs.Parse as spec
 use Rattle.java_parse_decl.specs.Parse.{◌>>=◌, Read, is_at, stand, is_print, is_called, token_text, print, prints, method, methods, class_body, class_below, class, call, step, steps, is_main, main, begins_main, classes}
 use Rattle.java_parse_decl.proofs.Steps.{and_true, is_at_says, stand_says, called_says, step_on, step_if, step_either}
-use Rattle.java_parse_decl.proofs.Lists.{Are, total, IsRead, many_says}
+use Rattle.java_parse_decl.proofs.Lists.{Are, total, many_says}
 use Rattle.java_parse_decl.proofs.Forms.{IsPrintTo, prints_row, methods_are, steps_row, types_are, stmts-total, members-total}
 
 module _ (names : List (List ℕ)) (ts : List Tok) where

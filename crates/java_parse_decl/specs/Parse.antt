@@ -3,7 +3,6 @@ use Rattle.std.specs.Prelude.{◌≡◌, ℕ, zero, suc, ◌+◌, Bool, true, fa
 use Rattle.std.specs.Option.{option_and_then}
 use Rattle.std.specs.Str.{bytes_eq}
 use denote.Enum.Bare.{sameb}
-use Rattle.java_tree.specs.Plain as t
 use Rattle.java_tree.specs.Plain.{TypeExpr, Stmt, Member, TypeDecl, SourceUnit}
 use Rattle.java_tree.specs.View.{stmt_row}
 use Rattle.java_lexer.specs.contracts.token.Sort.{the_type}

@@ -1,10 +1,9 @@
 -- Main's parts, by the parts of its tree.
-use Rattle.std.proofs.Common.{◌≡◌, ℕ, suc, ◌+◌, ◌-◌, List, [], ◌∷◌, length, map, slice_get, Option, Some, None, option_and_then, refl, ap, sym, ◌∙◌, subst, arith}
+use Rattle.std.proofs.Common.{◌≡◌, suc, ◌-◌, false, List, [], ◌∷◌, length, map, slice_get, Option, Some, None, option_and_then, refl, ap, sym, ◌∙◌, subst, arith}
 use Rattle.std.specs.Option.{option_map}
 use Rattle.java_tree.specs.declared.tree.Member.{Member}
 use Rattle.java_tree.specs.declared.tree.Member.TheVariants as m
 use Rattle.java_tree.specs.declared.tree.TypeDecl.{TypeDecl}
-use Rattle.java_tree.specs.declared.tree.Param.{Param}
 use Rattle.java_tree.specs.declared.tree.SourceUnit.{SourceUnit}
 use Rattle.java_tree.specs.declared.tree.Stmt.{Stmt}
 use Rattle.java_tree.specs.declared.tree.StmtForm.{StmtForm, out-StmtForm, roll-StmtForm, roll-out-StmtForm}
@@ -15,9 +14,9 @@ use Rattle.java_tree.specs.declared.tree.Catch.{Catch}
 use Rattle.java_tree.specs.declared.tree.Group.{Group}
 use Rattle.java_tree.specs.declared.tree.Node.{Node}
 use Rattle.java_tree.specs.Plain as t
-use Rattle.java_tree.specs.View.{decl_plain, member_plain, param_plain, unit_plain, stmt_plain, stmts_plain, stmt_form, stmt_node}
+use Rattle.java_tree.specs.View.{decl_plain, member_plain, unit_plain, stmt_plain, stmt_form, stmt_node}
 use Rattle.java_tree.proofs.Views.{stmt_out}
-use Rattle.java_typing.specs.Main.{last_type, first_method, main_method, main_steps, body_of, params_of, statements}
+use Rattle.java_typing.specs.Main.{last_type, first_method, main_method, statements, is_block}
 
 last_found : (ds : List TypeDecl) → last_type (map decl_plain ds) ≡ option_map decl_plain (slice_get ds (length ds - 1))
 last_found [] = refl
@@ -65,3 +64,13 @@ pub no_block : (x : Stmt) → ((xs : List Stmt) → x.form ≡ w.Block xs → �
 no_block x h =
     ap (λ s. statements (Some s)) (stmt_out x)
     ∙ level_is_no_block (out-StmtForm x.form) x.node (λ xs e. h xs (sym (roll-out-StmtForm x.form) ∙ ap roll-StmtForm e ∙ w.rolls-Block xs))
+
+level_no_block : (L : g.StmtForm-F StmtForm Catch Group Stmt) (n : Node) → ((xs : List Stmt) → L ≡ g.Block xs → ⊥) → is_block (Some (level L n)) ≡ false
+level_no_block (g.Block xs) n h = absurd (h xs refl)
+level_no_block _ n h = refl
+
+-- a statement that is no block is none where a body is asked for
+pub is_no_block : (x : Stmt) → ((xs : List Stmt) → x.form ≡ w.Block xs → ⊥) → is_block (Some (stmt_plain x)) ≡ false
+is_no_block x h =
+    ap (λ s. is_block (Some s)) (stmt_out x)
+    ∙ level_no_block (out-StmtForm x.form) x.node (λ xs e. h xs (sym (roll-out-StmtForm x.form) ∙ ap roll-StmtForm e ∙ w.rolls-Block xs))

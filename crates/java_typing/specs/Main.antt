@@ -1,6 +1,5 @@
 -- Where main is: the last type of a small file is the class that has it.
-use Rattle.std.specs.Prelude.{◌≡◌, ℕ, ◌⊎◌, List, [], ◌∷◌, Option, Some, None, option_and_then}
-use Rattle.java_tree.specs.declared.tree.Name.{Name}
+use Rattle.std.specs.Prelude.{◌≡◌, ◌⊎◌, Bool, true, false, List, [], ◌∷◌, Option, Some, None, option_and_then}
 use Rattle.java_tree.specs.Plain as t
 use Rattle.java_tree.specs.Plain.{Stmt, Stmts, Param, Member, MethodDecl, TypeDecl, SourceUnit}
 
@@ -26,6 +25,15 @@ main_method u = option_and_then (λ d. first_method d.members) (last_type u.type
 abbrev pub statements : Option Stmt → Stmts
 statements (Some (t.Block n xs)) = xs
 statements _ = t.Last
+
+-- whether there is a body, and it is a block
+abbrev pub is_block : Option Stmt → Bool
+is_block (Some (t.Block n xs)) = true
+is_block _ = false
+
+abbrev pub has_block : Option MethodDecl → Bool
+has_block None = false
+has_block (Some m) = is_block m.body
 
 abbrev pub body_of : Option MethodDecl → Stmts
 body_of None = t.Last

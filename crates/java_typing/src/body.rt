@@ -1,6 +1,6 @@
 //! Where main's statements are.
 
-ghost use Rattle.std.specs.Prelude.{◌≡◌, [], ◌∷◌, IfSome, IfNone, slice_get, option_and_then};
+ghost use Rattle.std.specs.Prelude.{◌≡◌, [], ◌∷◌, IfSome, IfNone, is_some, slice_get, option_and_then};
 ghost use Rattle.std.specs.Option.{option_copied, option_map};
 ghost use Rattle.java_tree.specs.Plain as t;
 ghost use Rattle.java_tree.specs.View.{stmts_plain, member_plain, param_plain, unit_plain};
@@ -18,10 +18,11 @@ fn main_member(unit: &SourceUnit) -> Option<&Member>
 }
 
 /// The statements of main. `None` where the last type's first member is no method with a body.
-#[tactic(auto, using(crate::proofs::Bodies::no_block))]
+#[tactic(auto, using(crate::proofs::Bodies::no_block, crate::proofs::Bodies::is_no_block))]
 pub fn main_steps(unit: &SourceUnit) -> Option<&[Stmt]>
     ensures some { IfSome result (λ xs. stmts_plain xs.now ≡ spec.main_steps (unit_plain unit.now)) }
     ensures none { IfNone result (spec.main_steps (unit_plain unit.now) ≡ t.Last) }
+    ensures block { is_some result ≡ spec.has_block (spec.main_method (unit_plain unit.now)) }
 {
     let Member::Method { body, .. } = main_member(unit)? else {
         return None;

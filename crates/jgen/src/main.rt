@@ -1,6 +1,9 @@
 //! jgen: refactorings of Java programs, proved to keep what the programs do.
 #![tactic(auto)]
 
+ghost use Rattle.std.specs.Prelude.{◌≡◌};
+ghost use Rattle.jgen.specs.Exit.{exit_status};
+
 use refactor_app::{Status, refactor};
 use std::env;
 use std::process::ExitCode;
@@ -42,7 +45,9 @@ fn words(rt: &(impl Env + AllocGlobal)) -> Option<Vec<String>> {
 }
 
 /// The exit status of an answer.
-fn code(status: Status) -> u8 {
+fn code(status: Status) -> u8
+    ensures { result ≡ exit_status status }
+{
     match status {
         Status::Done => 0,
         Status::Refused => 1,

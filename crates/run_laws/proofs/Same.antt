@@ -1,12 +1,11 @@
 -- Programs that correspond run alike: each form in turn, by the ways to go on.
-use Rattle.std.proofs.Common.{◌≡◌, ℕ, zero, suc, ◌+◌, ◌⊎◌, inl, inr, List, [], ◌∷◌, ◌++◌, map, length, Option, Some, None, slice_get, refl, sym, ◌∙◌, ap, subst}
+use Rattle.std.proofs.Common.{◌≡◌, ℕ, zero, suc, ◌+◌, inl, inr, List, [], ◌∷◌, ◌++◌, map, length, Option, Some, None, slice_get, refl, sym, ◌∙◌, ap, subst}
 use Rattle.java_tree.specs.Plain as t
 use Rattle.java_tree.specs.Plain.{Expr, Exprs, Param, Stmt, Stmts, Member, TypeDecl, SourceUnit}
 use Rattle.class_world.specs.declared.world.World.{World}
-use Rattle.class_world.specs.declared.world.MethodInfo.{MethodInfo}
 use Rattle.class_world.specs.Subtypes.{IsClassTree}
 use Rattle.class_world.specs.Members.{AreApart}
-use Rattle.class_world.specs.Lookup.{Overrides, AreLookups}
+use Rattle.class_world.specs.Lookup.{AreLookups}
 use Rattle.class_world.proofs.Lookups.{one_lookup, lookup_overridden}
 use Rattle.java_typing.specs.declared.table.Use.{Use}
 use Rattle.java_typing.specs.declared.table.Use.TheVariants as use_of
@@ -16,8 +15,8 @@ use Rattle.java_values.specs.declared.value.Value.{Value}
 use Rattle.java_values.specs.declared.value.Value.TheVariants as v
 use Rattle.java_values.specs.State.{Thing, State, Held}
 use Rattle.java_values.specs.State as state
-use Rattle.java_meaning.specs.Outcome.{Outcome, Gives, Threw, Bound, and_then, misfit, with_some, with_thing, step, step_at, leave, after, throws}
-use Rattle.java_meaning.specs.Meaning.{Place, value, values, performed, statement, all_statements, variable, system_out, allocated, invoked, called_on, print_line, Body, BuiltIn, Declared, Default, member_body, bodies_from, bodies, super_constructor, bound_to, ran, at_last, enter}
+use Rattle.java_meaning.specs.Outcome.{Outcome, Gives, Threw, Bound, and_then, with_some, with_thing, step, step_at, leave, after}
+use Rattle.java_meaning.specs.Meaning.{Place, value, values, performed, statement, all_statements, allocated, invoked, called_on, Body, BuiltIn, Declared, Default, member_body, bodies_from, bodies, super_constructor, bound_to, ran, at_last, enter}
 use Rattle.java_meaning.specs.Run.{first_of_last, main_number, run, start, end_of}
 use Rattle.java_meaning.specs.Alike.{BehaveAlike}
 

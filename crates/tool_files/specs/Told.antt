@@ -1,5 +1,5 @@
 -- What files and sinks tell of themselves.
-use Rattle.std.specs.Prelude.{◌≡◌, ℕ, ◌+◌, ◌-◌, ◌^◌, ◌<◌, ◌≤◌, ◌⊎◌, List, ◌++◌, length, take, Option, Some, None, Result, Ok, Err}
+use Rattle.std.specs.Prelude.{◌≡◌, ℕ, ◌-◌, ◌^◌, ◌<◌, ◌≤◌, ◌⊎◌, List, ◌++◌, length, take, Option, Some, None, Result, Err}
 use Rattle.tool_files.specs.declared.traits.FileFault.{FileFault}
 use Rattle.tool_files.specs.declared.traits.FileFault.TheVariants as fault
 

@@ -1,6 +1,7 @@
 //! The trusted edge: files of the file system and standard output, which tell no content.
 
-ghost use Rattle.std.specs.Prelude.{◌≡◌, ℕ, ◌≤◌, ◌++◌, List, length, None, OnOk, OnErr};
+ghost use Rattle.std.specs.Prelude.{◌≡◌, ℕ, ◌<◌, ◌≤◌, ◌++◌, List, length, take, None, IfSome, IfOk, OnOk, OnErr};
+ghost use Rattle.std.specs.Io.KnownBytes.{Appends, Consumes, IsAtEnd};
 ghost use Rattle.tool_files.specs.Counts.{no_counts, counts_after_read, counts_after_write, faults_after_put};
 ghost use Rattle.tool_files.specs.Told.{Reads};
 
@@ -95,8 +96,10 @@ fn read_file(
     }
 }
 
-fn read_pieces(file: &mut impl Read, most: usize, into: &mut Vec<u8>) -> Result<(), FileFault>
-    ensures { (more : List ℕ) × (into.new.items ≡ into.old.items ++ more) × (length more ≤ most) }
+/// Appends the first `most` bytes that a reader gives, or all where it gives fewer.
+fn read_pieces<R: Read>(file: &mut R, most: usize, into: &mut Vec<u8>) -> Result<(), FileFault>
+    ensures more { (more : List ℕ) × (into.new.items ≡ into.old.items ++ more) × (length more ≤ most) }
+    ensures known { OnOk result (IfSome (R.remaining file.old) (λ bytes. into.new.items ≡ into.old.items ++ take most bytes)) }
 {
     let mut piece = Vec::new(*into.allocator());
     piece
@@ -104,17 +107,33 @@ fn read_pieces(file: &mut impl Read, most: usize, into: &mut Vec<u8>) -> Result<
         .or(Err(FileFault::NoMemory))?;
     let mut left = most;
     // Each turn reads a byte at least, or is the last.
-    for _ in 0..most {
+    'pieces: while left > 0 {
         let asked = left.min(piece.len());
-        let count = file.read(&mut piece[..asked]).or(Err(FileFault::Failed))?;
+        let count = read_piece(file, &mut piece[..asked], into)?;
         if count == 0 {
             break;
         }
-        into.extend_from_slice(&piece[..count])
-            .or(Err(FileFault::NoMemory))?;
         left -= count;
     }
     Ok(())
+}
+
+/// Appends what one read gives, and tells how many bytes it gave.
+fn read_piece<R: Read>(
+    file: &mut R,
+    piece: &mut [u8],
+    into: &mut Vec<u8>,
+) -> Result<usize, FileFault>
+    ensures bound { IfOk result (λ n. n ≤ length piece.new) }
+    ensures appended { IfOk result (λ n. into.new.items ≡ into.old.items ++ take n piece.new) }
+    ensures given { IfOk result (λ n. Consumes (R.remaining file.old) (R.remaining file.new) (take n piece.new)) }
+    ensures end { IfOk result (λ n. n ≡ 0 → 0 < length piece.new → IsAtEnd (R.remaining file.new)) }
+    ensures err { OnErr result (into.new.items ≡ into.old.items) }
+{
+    let count = file.read(piece).or(Err(FileFault::Failed))?;
+    into.extend_from_slice(&piece[..count])
+        .or(Err(FileFault::NoMemory))?;
+    Ok(count)
 }
 
 /// Makes the missing folders of a file, and the file.
@@ -125,19 +144,11 @@ fn write_file(rt: &impl rt::Files, name: &str, bytes: &[u8]) -> io::Result<()> {
     write_pieces(&mut fs::create(rt, name)?, bytes)
 }
 
-fn write_pieces(out: &mut impl Write, bytes: &[u8]) -> io::Result<()> {
-    let mut rest = bytes;
-    // Each turn writes a byte at least.
-    for _ in 0..bytes.len() {
-        if rest.is_empty() {
-            break;
-        }
-        let count = out.write(rest)?;
-        if count == 0 {
-            return Err(io::Error::from(ErrorKind::WriteZero));
-        }
-        rest = &rest[count..];
-    }
+/// Writes all bytes, and flushes.
+fn write_pieces<W: Write>(out: &mut W, bytes: &[u8]) -> io::Result<()>
+    ensures { OnOk result (Appends (W.contents out.old) (W.contents out.new) bytes.now) }
+{
+    out.write_all(bytes)?;
     out.flush()
 }
 

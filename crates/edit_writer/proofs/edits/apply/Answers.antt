@@ -1,4 +1,4 @@
-use Rattle.std.proofs.Common.{◌≡◌, ◌+◌, ◌-◌, ◌≤◌, ◌∷◌, drop, length, subst, ap, arith}
+use Rattle.std.proofs.Common.{◌+◌, drop, length, subst, arith}
 use Rattle.edit_writer.specs.Edits.{AreOrdered}
 use Rattle.edit_writer.proofs.Orders.{first_left, next_fits}
 use Rattle.edit_writer.proofs.edits.apply.Goals as goal

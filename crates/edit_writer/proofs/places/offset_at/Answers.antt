@@ -1,4 +1,4 @@
-use Rattle.std.proofs.Common.{◌≡◌, ℕ, zero, suc, ◌<◌, ◌+◌, ◌≤◌, ◌⊎◌, inl, inr, ◌∷◌, List, length, sym, ◌∙◌, ap, subst, rules, arith}
+use Rattle.std.proofs.Common.{◌≡◌, ℕ, suc, ◌<◌, ◌+◌, ◌⊎◌, inl, inr, ◌∷◌, length, sym, ◌∙◌, ap, subst, rules, arith}
 use Rattle.edit_writer.specs.Places.{place_from, place_at}
 use Rattle.edit_writer.proofs.Lines.{one_place, one_on, step_small}
 use Rattle.edit_writer.proofs.places.offset_at.Goals as goal

@@ -1,4 +1,4 @@
-use Rattle.std.proofs.Common.{◌≡◌, ℕ, suc, ◌-◌, ◌+◌, ◌≤◌, ◌∷◌, List, length, sym, ◌∙◌, ap, subst, arith}
+use Rattle.std.proofs.Common.{◌≡◌, suc, ◌-◌, ◌+◌, ◌∷◌, length, sym, ◌∙◌, ap, subst, arith}
 use Rattle.edit_writer.specs.Places.{place_from, place_at}
 use Rattle.edit_writer.proofs.Lines.{one_on, step_small}
 use Rattle.edit_writer.proofs.places.place_at.Goals as goal

@@ -1,4 +1,4 @@
-use Rattle.std.proofs.Common.{◌≡◌, Ok, Err, refl, sym, ◌∙◌, rules}
+use Rattle.std.proofs.Common.{◌≡◌, sym, rules}
 use Rattle.java_lexer.specs.declared.token.Sort.TheVariants as s
 use Rattle.java_lexer.proofs.Interning.{goes_in, stays_out}
 use Rattle.java_lexer.proofs.lexer.intern_word.Goals as goal

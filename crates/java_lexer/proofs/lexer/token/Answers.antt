@@ -1,4 +1,4 @@
-use Rattle.std.proofs.Common.{◌≡◌, refl}
+use Rattle.std.proofs.Common.{refl}
 use Rattle.java_lexer.proofs.lexer.token.Goals as goal
 
 pub returns-in-Blank-clause-table : goal.returns-in-Blank-clause-table

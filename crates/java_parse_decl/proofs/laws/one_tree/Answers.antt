@@ -1,4 +1,3 @@
-use Rattle.java_parse_decl.proofs.Sound.{unit_says}
 use Rattle.java_parse_decl.proofs.Complete.{one}
 use Rattle.java_parse_decl.proofs.laws.one_tree.Goals as goal
 

@@ -1,7 +1,7 @@
 use Rattle.std.proofs.Common.{◌≡◌, ℕ, List, [], ◌∷◌, ◌++◌, length, append_assoc, sym, ◌∙◌, ap}
 use Rattle.std.specs.Prelude.{codes}
 use Rattle.std.specs.Fmt.{decimal}
-use Rattle.report_text.specs.Report.{spaced, line_of, one_edit, edit_report}
+use Rattle.report_text.specs.Report.{spaced, line_of, one_edit}
 use Rattle.report_text.proofs.report.edit_report.Goals as goal
 
 three : (a b c z : List ℕ) → (a ++ (32 ∷ (b ++ (32 ∷ (c ++ (32 ∷ [])))))) ++ z ≡ a ++ (32 ∷ (b ++ (32 ∷ (c ++ (32 ∷ z)))))
