@@ -1,0 +1,6 @@
+pub mod MethodBodies
+pub mod Constructs
+pub mod Parts
+pub mod Creations
+pub mod Scopes
+pub mod Simply

@@ -3,3 +3,4 @@ pub mod Meaning
 pub mod Run
 pub mod Alike
 pub mod Simple
+pub mod Meets

@@ -148,7 +148,15 @@ fn write_file(rt: &impl rt::Files, name: &str, bytes: &[u8]) -> io::Result<()> {
 fn write_pieces<W: Write>(out: &mut W, bytes: &[u8]) -> io::Result<()>
     ensures { OnOk result (Appends (W.contents out.old) (W.contents out.new) bytes.now) }
 {
-    out.write_all(bytes)?;
+    let mut rest = bytes;
+    // Each turn writes a byte at least.
+    'pieces: while !rest.is_empty() {
+        let count = out.write(rest)?;
+        if count == 0 {
+            return Err(io::Error::from(ErrorKind::WriteZero));
+        }
+        rest = &rest[count..];
+    }
     out.flush()
 }
 
