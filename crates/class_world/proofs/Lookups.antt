@@ -229,7 +229,7 @@ module _ (w : World) (tree : IsClassTree w) (apart : AreApart w) where
     ]
   ]
 
-  chosen_or_not : (c : ℕ) (name : Name) → ((k : ℕ) × IsChosen w c name k) ⊎ ((k : ℕ) → IsChosen w c name k → ⊥)
+  pub chosen_or_not : (c : ℕ) (name : Name) → ((k : ℕ) × IsChosen w c name k) ⊎ ((k : ℕ) → IsChosen w c name k → ⊥)
   chosen_or_not c name = chosen_in (tree.rank c + 1) c name (omega arith)
 
   -- the method of a family that all others override

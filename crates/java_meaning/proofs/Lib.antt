@@ -4,3 +4,4 @@ pub mod Parts
 pub mod Creations
 pub mod Scopes
 pub mod Simply
+pub mod Whole
