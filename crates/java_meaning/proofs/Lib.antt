@@ -5,3 +5,8 @@ pub mod Creations
 pub mod Scopes
 pub mod Simply
 pub mod Whole
+pub mod Forms
+pub mod Chains
+pub mod Lines
+pub mod Mains
+pub mod Calls

@@ -4,3 +4,5 @@ pub mod Run
 pub mod Alike
 pub mod Simple
 pub mod Meets
+pub mod Steps
+pub mod Runs

@@ -1,0 +1,122 @@
+-- What the parts of a run say of `simple_run`, and the run of the meaning.
+use Rattle.std.specs.Prelude.{◌≡◌, ℕ, nat_eq, Bool, true, false, List, ◌∷◌, ◌++◌, map, length, slice_get, Option, Some, None}
+use Rattle.std.specs.List.{find}
+use Rattle.std.specs.HashMap.{get}
+use Rattle.java_tree.specs.declared.tree.Name.{Name}
+use Rattle.java_tree.specs.Plain as t
+use Rattle.java_tree.specs.Plain.{Stmts, Member, SourceUnit}
+use Rattle.java_tree.specs.View.{stmts_plain}
+use Rattle.java_lexer.specs.declared.token.Tok.{Tok}
+use Rattle.java_lexer.specs.Lexing.{Lexes}
+use Rattle.java_parse_decl.specs.Grammar.{Spells}
+use Rattle.java_typing.specs.Typing.{StepsHold}
+use Rattle.decl_table.specs.declared.build.Declared.{Declared}
+use Rattle.decl_table.specs.Built.{IsBuilt}
+use Rattle.java_meaning.specs.Outcome.{Outcome, Gives, Threw, Bound}
+use Rattle.class_world.specs.declared.world.World.{World}
+use Rattle.class_world.specs.declared.world.TypeInfo.{TypeInfo}
+use Rattle.class_world.specs.Subtypes.{IsClassTree}
+use Rattle.class_world.specs.Tables.{Indexes}
+use Rattle.decl_table.specs.Classes.{Numbers}
+use Rattle.java_meaning.specs.Meaning as meaning
+use Rattle.java_meaning.specs.Meaning.{Body, bodies, member_body, is_plain_constructor}
+use Rattle.java_meaning.specs.Simple.{Ran, Course, Goes, Cut, Holds, go_on, goes_with, enters, constructs, lines, class_held, ArePicks}
+use Rattle.java_meaning.specs.declared.steps.Creation.{Creation}
+use Rattle.java_meaning.specs.declared.steps.LocalCall.{LocalCall}
+use Rattle.java_meaning.specs.declared.machine.Machine.{Machine}
+use Rattle.java_meaning.specs.declared.machine.Locals.{Locals}
+use Rattle.java_meaning.specs.declared.tables.Tables.{Tables}
+use Rattle.java_meaning.specs.declared.run.Run.{Run}
+use Rattle.java_meaning.specs.declared.run.End.{End}
+use Rattle.java_meaning.specs.declared.run.End.TheVariants as end
+use Rattle.java_meaning.specs.declared.run.Next.{Next}
+use Rattle.java_meaning.specs.declared.run.Next.TheVariants as next
+
+-- the run that a machine has made so far
+abbrev pub ran_of : Machine → Ran
+ran_of m = record { left = m.left; out = m.out; entered = m.entered }
+
+-- a run that goes on, or is cut off
+abbrev pub course : Bool → Ran → Course
+course true r = Goes r
+course false r = Cut r
+
+-- the table has exactly the locals, each with the class of its object
+abbrev pub Holding : Locals → List Holds → Type 0
+Holding ls hs = (x : Name) → get nat_eq ls.classes x.0 ≡ class_held hs x
+
+-- the statements of a body
+abbrev pub body_steps : Body → Stmts
+body_steps (meaning.Declared ps xs) = xs
+body_steps _ = t.Last
+
+abbrev pub member_steps : Member → Stmts
+member_steps m = body_steps (member_body m)
+
+-- the first constructor without parameters of a class
+abbrev pub class_constructor : World → TypeInfo → Option ℕ
+class_constructor w info = find (λ k. is_plain_constructor (slice_get w.methods k)) info.methods
+
+-- the tables can be asked
+pub record AreReady (t : Tables) : Type 0 where
+  pub tree : IsClassTree t.declared.now.world
+  pub methods : Indexes t.declared.now.methods t.declared.now.world
+  pub constructors : t.constructors.items ≡ map (class_constructor t.declared.now.world) t.declared.now.world.types
+
+-- the tables are those of the file, and `pick` answers what calls choose in its world
+pub record AreTables (t : Tables) (u : SourceUnit) (pick : ℕ → Name → Option ℕ) : Type 0 where
+  pub classes : Numbers t.declared.now.classes u
+  pub steps : map (λ xs. stmts_plain xs.now) t.bodies.items ≡ map body_steps (bodies u)
+  pub picks : ArePicks t.declared.now.world pick
+
+-- a local gets a new object, and then the rest runs
+abbrev pub creation_run : World → Creation → (List Holds → Ran → Course) → List Holds → Ran → Course
+creation_run w k rest hs r = go_on (constructs (length w.types) w k.class r) (λ r. rest (record { name = k.name; class = k.class } ∷ hs) r)
+
+-- a method is called on a local, and then the rest runs
+abbrev pub call_run : SourceUnit → (ℕ → Name → Option ℕ) → LocalCall → (List Holds → Ran → Course) → List Holds → Ran → Course
+call_run u pick k rest hs r =
+    goes_with (class_held hs k.on) r (λ c. goes_with (pick c k.method) r (λ j. enters j r (λ r. rest hs (record r { out = r.out ++ lines u j }))))
+
+-- a statement that is one of these, or neither
+abbrev pub step_run : SourceUnit → World → (ℕ → Name → Option ℕ) → Option Creation → Option LocalCall → (List Holds → Ran → Course) → List Holds → Ran → Course
+step_run u w pick (Some k) call rest hs r = creation_run w k rest hs r
+step_run u w pick None (Some k) rest hs r = call_run u pick k rest hs r
+step_run u w pick None None rest hs r = Goes r
+
+-- the locals behind a statement
+abbrev pub held_after : Option Creation → List Holds → List Holds
+held_after (Some k) hs = record { name = k.name; class = k.class } ∷ hs
+held_after None hs = hs
+
+-- what is left to run after a statement: the rest, or nothing
+abbrev pub IsNext : Next → Locals → List Holds → Ran → (List Holds → Ran → Course) → Course → Type 0
+IsNext next.On ls hs r rest c = Holding ls hs × (c ≡ rest hs r)
+IsNext next.Done ls hs r rest c = c ≡ Goes r
+IsNext next.AtBound ls hs r rest c = c ≡ Cut r
+
+-- a run that ended so
+abbrev pub ended : End → Ran → Course
+ended end.Normal r = Goes r
+ended end.AtBound r = Cut r
+
+-- the run printed and entered what the course does, and ended as it does
+abbrev pub IsRunOf : Run → Course → Type 0
+IsRunOf r (Goes x) = (r.out ≡ x.out) × (r.entered ≡ x.entered) × (r.end ≡ end.Normal)
+IsRunOf r (Cut x) = (r.out ≡ x.out) × (r.entered ≡ x.entered) × (r.end ≡ end.AtBound)
+
+-- a small program in which no rule is broken, with its tokens and its tables
+pub record IsChecked (u : SourceUnit) (d : Declared) : Type 0 where
+  pub names : List (List ℕ)
+  pub text : List ℕ
+  pub toks : List Tok
+  pub lexes : Lexes names text toks
+  pub spells : Spells names toks u
+  pub steps : StepsHold u d.world
+  pub built : IsBuilt names u d
+
+-- the run printed and entered what the meaning does, and ended as it does; nothing was thrown
+abbrev pub IsRun : Run → Outcome (Unit {0}) → Type 0
+IsRun r (Gives u s) = (r.out ≡ s.out) × (r.entered ≡ s.entered) × (r.end ≡ end.Normal)
+IsRun r (Bound s) = (r.out ≡ s.out) × (r.entered ≡ s.entered) × (r.end ≡ end.AtBound)
+IsRun r (Threw k s) = ⊥
