@@ -1,18 +1,18 @@
 -- Where no rule is broken there is an annotation.
-use Rattle.std.proofs.Common.{◌≡◌, ℕ, ◌+◌, ◌==◌, ◌<◌, ◌≤◌, ◌⊎◌, inl, inr, List, [], ◌∷◌, Option, Some, None, if◌then◌else◌, refl, ap, sym, ◌∙◌, subst, arith}
+use Rattle.std.proofs.Common.{◌≡◌, ℕ, ◌+◌, ◌==◌, ◌≤◌, inl, inr, List, [], Option, Some, None, if◌then◌else◌, sym, ◌∙◌, subst, arith}
 use Rattle.std.proofs.lemmas.Bool.Decides.{nat_tests}
 use Rattle.java_tree.specs.Plain as t
 use Rattle.java_tree.specs.Plain.{Stmt, Stmts, SourceUnit}
 use Rattle.java_lexer.specs.declared.token.Tok.{Tok}
 use Rattle.java_parse_decl.specs.Nodes.{stmt_nodes}
-use Rattle.java_parse_decl.specs.Grammar.{AreSteps, IsStep, Spells, local_at, call_at, name_at, type_at}
+use Rattle.java_parse_decl.specs.Grammar.{AreSteps, IsStep}
 use Rattle.class_world.specs.declared.world.World.{World}
 use Rattle.class_world.specs.declared.world.JavaType.{JavaType}
 use Rattle.class_world.specs.declared.world.JavaType.TheVariants as ty
 use Rattle.java_typing.specs.declared.table.Use.{Use}
 use Rattle.java_typing.specs.declared.table.Use.TheVariants as use_of
-use Rattle.java_typing.specs.Typing.{Local, Annotation, Annotates, StepsHold, IsStmtTyped, AreTyped, scope_after}
-use Rattle.check_decl.proofs.Steps.{LocalSays, CallSays, local_says, says_local, call_says, says_call, steps_of_main}
+use Rattle.java_typing.specs.Typing.{Local, Annotation, IsStmtTyped, AreTyped, scope_after}
+use Rattle.check_decl.proofs.Steps.{local_says, says_local, call_says, says_call}
 
 -- the table with one entry more
 abbrev pub put : {A : Type 0} → ℕ → A → (ℕ → Option A) → ℕ → Option A

@@ -5,7 +5,7 @@ use Rattle.java_tree.specs.Plain as t
 use Rattle.java_tree.specs.Plain.{Stmt, Stmts, Member, TypeDecl, SourceUnit}
 use Rattle.java_lexer.specs.declared.token.Tok.{Tok}
 use Rattle.java_parse_decl.specs.Nodes.{stmt_nodes, stmts_nodes, member_nodes, members_nodes, decl_nodes}
-use Rattle.java_parse_decl.specs.Grammar.{IsPrint, ArePrints, IsMethod, AreMethods, IsClass, IsMain, AreTypes, Spells}
+use Rattle.java_parse_decl.specs.Grammar.{IsPrint, ArePrints, AreMethods, IsClass, IsMain, AreTypes, Spells}
 use Rattle.class_world.specs.declared.world.World.{World}
 use Rattle.class_world.specs.declared.world.JavaType.{JavaType}
 use Rattle.class_world.specs.declared.world.JavaType.TheVariants as ty

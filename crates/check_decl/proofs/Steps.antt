@@ -1,11 +1,11 @@
 -- Main's statements in a small program, and what the typing of each says.
-use Rattle.std.proofs.Common.{◌≡◌, ℕ, ◌+◌, ◌≤◌, ◌⊎◌, inl, inr, List, [], ◌∷◌, length, Option, Some, None, refl, ap, sym, ◌∙◌, subst, arith}
+use Rattle.std.proofs.Common.{◌≡◌, ℕ, ◌+◌, List, [], ◌∷◌, length, Some, None, refl, sym, subst}
 use Rattle.std.proofs.lemmas.Option.{same_Some}
 use Rattle.java_tree.specs.declared.tree.Name.{Name}
 use Rattle.java_tree.specs.Plain as t
 use Rattle.java_tree.specs.Plain.{TypeExpr, Expr, Stmt, Stmts, TypeDecl, SourceUnit}
 use Rattle.java_lexer.specs.declared.token.Tok.{Tok}
-use Rattle.java_parse_decl.specs.Grammar.{AreTypes, IsMain, IsClass, AreSteps, IsStep, Spells, local_at, call_at, name_at, type_at, node_of}
+use Rattle.java_parse_decl.specs.Grammar.{AreTypes, IsMain, AreSteps, Spells, local_at, call_at, name_at, type_at, node_of}
 use Rattle.class_world.specs.declared.world.World.{World}
 use Rattle.class_world.specs.declared.world.JavaType.{JavaType}
 use Rattle.class_world.specs.declared.world.JavaType.TheVariants as ty
@@ -13,7 +13,7 @@ use Rattle.class_world.specs.Subtypes.{Subtype}
 use Rattle.class_world.specs.Members.{IsChosen}
 use Rattle.java_typing.specs.declared.table.Use.{Use}
 use Rattle.java_typing.specs.declared.table.Use.TheVariants as use_of
-use Rattle.java_typing.specs.Main.{main_steps, last_type, body_of, first_method}
+use Rattle.java_typing.specs.Main.{main_steps, last_type}
 use Rattle.java_typing.specs.Typing.{Local, find_local, step_type, IsConstructor, IsStmtTyped, HasType}
 
 module _ (names : List (List ℕ)) (ts : List Tok) where

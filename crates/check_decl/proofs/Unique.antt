@@ -1,12 +1,11 @@
 -- Two annotations of a program say the same of main's expressions.
-use Rattle.std.proofs.Common.{◌≡◌, ℕ, ◌+◌, ◌⊎◌, inl, inr, List, [], ◌∷◌, Option, Some, None, refl, ap, sym, ◌∙◌, subst}
+use Rattle.std.proofs.Common.{◌≡◌, ℕ, ◌+◌, inl, inr, List, [], Some, ap, sym, ◌∙◌, subst}
 use Rattle.std.proofs.lemmas.Option.{same_Some}
 use Rattle.java_tree.specs.Plain as t
 use Rattle.java_tree.specs.Plain.{Expr, Stmt, Stmts, SourceUnit}
 use Rattle.java_lexer.specs.declared.token.Tok.{Tok}
 use Rattle.java_parse_decl.specs.Nodes.{stmt_nodes}
 use Rattle.java_parse_decl.specs.Grammar.{AreSteps, IsStep, Spells, local_at, call_at, name_at, type_at, node_of}
-use Rattle.class_world.specs.declared.world.JavaType.{JavaType}
 use Rattle.class_world.specs.declared.world.JavaType.TheVariants as ty
 use Rattle.class_world.specs.Subtypes.{IsClassTree}
 use Rattle.class_world.specs.Members.{AreApart, IsChosen}

@@ -1,5 +1,5 @@
 -- Whether two annotations say the same of the expressions of a statement, and of the Prints of classes.
-use Rattle.std.specs.Prelude.{◌≡◌, ℕ, List, [], ◌∷◌, Some}
+use Rattle.std.specs.Prelude.{◌≡◌, List, [], ◌∷◌, Some}
 use Rattle.java_tree.specs.Plain as t
 use Rattle.java_tree.specs.Plain.{Expr, Stmt, Stmts, Member, TypeDecl}
 use Rattle.java_typing.specs.Main.{statements}

@@ -1,5 +1,5 @@
 -- The rules on a statement and its parts, as `StepsHold` has them: no table by node is asked for.
-use Rattle.std.specs.Prelude.{◌≡◌, ℕ, Bool, List, Option, Some, None, Result, Ok, Err, ◌↔◌, IsTrue}
+use Rattle.std.specs.Prelude.{◌≡◌, Bool, List, Option, Some, None, Result, Ok, Err, ◌↔◌, IsTrue}
 use Rattle.java_tree.specs.Plain.{Expr, Stmt, Stmts, SourceUnit}
 use Rattle.java_tree.specs.declared.fault.NoMemory.{NoMemory}
 use Rattle.class_world.specs.declared.world.World.{World}

@@ -1,12 +1,12 @@
 -- Run-time lookup: there is one at most, and it stays where a method takes the place of one that overrides it.
-use Rattle.std.proofs.Common.{◌≡◌, ℕ, zero, suc, ◌+◌, ◌<◌, ◌≤◌, ◌⊎◌, inl, inr, true, false, List, [], ◌∷◌, Option, Some, None, slice_get, refl, sym, ◌∙◌, ap, subst, arith}
+use Rattle.std.proofs.Common.{◌≡◌, ℕ, zero, suc, ◌+◌, ◌<◌, ◌⊎◌, inl, inr, false, List, [], ◌∷◌, Option, Some, None, slice_get, refl, sym, ◌∙◌, ap, subst, arith}
 use Rattle.java_tree.specs.declared.tree.Name.{Name}
 use Rattle.class_world.specs.declared.world.World.{World}
 use Rattle.class_world.specs.declared.world.MethodInfo.{MethodInfo}
 use Rattle.class_world.specs.declared.world.TypeInfo.{TypeInfo}
 use Rattle.class_world.specs.declared.world.JavaType.{JavaType}
 use Rattle.class_world.specs.declared.world.JavaType.TheVariants as ty
-use Rattle.class_world.specs.Subtypes.{Subtype, same, direct, through, IsDirectSuper, IsBelow, IsClassTree}
+use Rattle.class_world.specs.Subtypes.{Subtype, direct, through, IsDirectSuper, IsBelow, IsClassTree}
 use Rattle.class_world.specs.Members.{AreApart, DeclaresCalled, IsChosen}
 use Rattle.class_world.specs.Lookup.{Overrides, IsOrOverrides, AreFamily, IsLookup, LookupIs, AreLookups, itself, first}
 use Rattle.class_world.proofs.Chains.{same_number, class_step, one_superclass, above_is_class, none_below_itself}

@@ -1,5 +1,5 @@
 -- Run-time lookup (JLS 8.4.8.1 and 15.12.4.4), in a world of classes.
-use Rattle.std.specs.Prelude.{◌≡◌, ℕ, ◌⊎◌, Bool, true, false, List, [], Option, Some, None, slice_get}
+use Rattle.std.specs.Prelude.{◌≡◌, ℕ, ◌⊎◌, true, false, [], Option, Some, None, slice_get}
 use Rattle.class_world.specs.declared.world.World.{World}
 use Rattle.class_world.specs.declared.world.MethodInfo.{MethodInfo}
 use Rattle.class_world.specs.Subtypes.{IsBelow}

@@ -1,8 +1,7 @@
 -- What Generalize Declared Type makes of a file's tree: the head of one declared type becomes another type, and what stands behind it moves.
-use Rattle.std.specs.Prelude.{ℕ, if◌then◌else◌, ◌==◌, List, [], ◌∷◌, map, Option, Some, None}
+use Rattle.std.specs.Prelude.{if◌then◌else◌, ◌==◌, [], ◌∷◌, map}
 use Rattle.std.specs.Option.{option_map}
 use Rattle.java_tree.specs.declared.tree.Node.{Node}
-use Rattle.java_tree.specs.declared.tree.Head.{Head}
 use Rattle.java_tree.specs.declared.tree.Head.TheVariants as head
 use Rattle.java_tree.specs.declared.tree.Import.{Import}
 use Rattle.java_tree.specs.Plain as t

@@ -1,5 +1,5 @@
 -- Written types that are no simple names.
-use Rattle.std.proofs.Common.{◌≡◌, ◌≢◌, ℕ, zero, suc, List, [], ◌∷◌, map, Some, None, ◌⊎◌, inl, inr, refl, ap, ◌∙◌}
+use Rattle.std.proofs.Common.{◌≡◌, ◌≢◌, ℕ, zero, suc, List, [], ◌∷◌, map, None, ◌⊎◌, inl, inr, refl, ap, ◌∙◌}
 use Rattle.java_tree.specs.declared.tree.Node.{Node}
 use Rattle.java_tree.specs.declared.tree.Span.{Span}
 use Rattle.java_tree.specs.declared.tree.Head.{Head}

@@ -1,6 +1,6 @@
 -- Walks up from class to superclass, and what they show: ranks, or a class above itself.
-use Rattle.std.proofs.Common.{◌≡◌, ◌≢◌, ℕ, ◌+◌, ◌-◌, ◌≤◌, ◌<◌, zero, suc, Bool, true, false, cond, eqb, ltb, List, [], ◌∷◌, ◌++◌, take, drop, replicate, Option, Some, None, ◌⊎◌, inl, inr, refl, sym, ap, ◌∙◌, subst, length, get_or, set, ⊎_elim, nat_le, arith}
-use Rattle.std.specs.Prelude.{slice_get, slice_index, count_by, ◌==◌}
+use Rattle.std.proofs.Common.{◌≡◌, ◌≢◌, ℕ, ◌+◌, ◌-◌, ◌≤◌, ◌<◌, zero, suc, true, false, cond, List, [], ◌∷◌, ◌++◌, take, drop, replicate, Some, ◌⊎◌, inl, inr, refl, sym, ap, ◌∙◌, subst, length, get_or, set, ⊎_elim, nat_le, arith}
+use Rattle.std.specs.Prelude.{slice_get, count_by, ◌==◌}
 use Rattle.std.proofs.lemmas.List.{get_or-set_same, get_or-set_other, length-set, length-replicate, get_or-replicate, get_or_past, drop_all, take_all, append-nil}
 use Rattle.std.proofs.lemmas.List.Sums.{sum_by-set}
 use Rattle.std.proofs.lemmas.List.Folds.{sum_by-replicate}
@@ -9,10 +9,10 @@ use Rattle.std.proofs.lemmas.Bool.Decides.{nat_tests}
 use Rattle.std.proofs.lemmas.Bool.{cases_eq, cases_lt}
 use Rattle.class_world.specs.declared.world.World.{World}
 use Rattle.class_world.specs.declared.world.TypeInfo.{TypeInfo}
-use Rattle.class_world.specs.declared.world.JavaType.{JavaType, out-JavaType}
+use Rattle.class_world.specs.declared.world.JavaType.{out-JavaType}
 use Rattle.class_world.specs.declared.world.JavaType.TheVariants as ty
 use Rattle.class_world.specs.declared.world.JavaType.TheOpen as f
-use Rattle.class_world.specs.Subtypes.{Subtype, same, direct, through, IsDirectSuper, IsBelow, IsClassTree}
+use Rattle.class_world.specs.Subtypes.{Subtype, same, direct, through, IsBelow, IsClassTree}
 use Rattle.decl_table.specs.Numbered.{IsSuperclass, HaveSingleSupers, IsNumbered}
 
 -- ---- a class has one superclass

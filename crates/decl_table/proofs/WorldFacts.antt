@@ -1,25 +1,22 @@
 -- What is true of the world of each file.
-use Rattle.std.proofs.Common.{◌≡◌, ◌≢◌, ◌⊎◌, inl, inr, ℕ, zero, suc, ◌+◌, ◌-◌, ◌<◌, ◌≤◌, ◌^◌, List, [], ◌∷◌, ◌++◌, map, Option, Some, None, refl, sym, ap, ◌∙◌, subst, length, get_or, ⊎_elim, arith, ◌↔◌}
-use Rattle.std.specs.Prelude.{slice_get, option_and_then, unwrap_or, IsSome}
+use Rattle.std.proofs.Common.{◌≡◌, ◌⊎◌, inl, inr, ℕ, zero, suc, ◌+◌, ◌<◌, ◌≤◌, ◌^◌, List, [], ◌∷◌, ◌++◌, map, Option, Some, None, refl, sym, ap, ◌∙◌, subst, length, get_or, ⊎_elim, arith, ◌↔◌}
+use Rattle.std.specs.Prelude.{slice_get, option_and_then, unwrap_or}
 use Rattle.std.specs.List.{Contains}
-use Rattle.std.proofs.lemmas.Bool.{cases_eq, cases_lt}
+use Rattle.std.proofs.lemmas.Bool.{cases_lt}
 use Rattle.std.proofs.lemmas.List.{length-map, length-append}
-use Rattle.std.proofs.lemmas.Option.{slice_get_within, slice_get-map, slice_get-get_or}
+use Rattle.std.proofs.lemmas.Option.{slice_get_within, slice_get-get_or}
 use Rattle.java_tree.specs.declared.tree.Name.{Name}
 use Rattle.java_tree.specs.Plain as t
 use Rattle.java_tree.specs.Plain.{TypeExpr, Member, TypeDecl, SourceUnit}
-use Rattle.class_world.specs.declared.world.World.{World}
 use Rattle.class_world.specs.declared.world.TypeInfo.{TypeInfo}
 use Rattle.class_world.specs.declared.world.MethodInfo.{MethodInfo}
-use Rattle.class_world.specs.declared.world.JavaType.TheVariants as ty
 use Rattle.class_world.specs.Names.{ListsMethods, IsOwned}
 use Rattle.java_typing.specs.Main.{before_last}
-use Rattle.java_typing.specs.WorldOf.{place_of, simple_name, class_named, superclass_of, type_info, infos_of, numbers, method_info, methods_of, default_constructor, object_constructor, built_in_types, world_of}
+use Rattle.java_typing.specs.WorldOf.{place_of, simple_name, superclass_of, type_info, infos_of, numbers, method_info, methods_of, default_constructor, object_constructor, built_in_types, world_of}
 use Rattle.java_typing.specs.Declarations.{TypesDiffer, written_methods}
 use Rattle.decl_table.specs.Classes.{HaveOwnNames}
 use Rattle.decl_table.specs.Numbered.{HaveSingleSupers}
 use Rattle.decl_table.specs.BuiltIns.{built_in_at}
-use Rattle.decl_table.specs.declared.built_ins.TheConstants.{SUPERCLASSES}
 use Rattle.decl_table.proofs.Places.{placed, left, length-before_last}
 use Rattle.decl_table.proofs.BuiltInLists.{in_table, row_cases}
 

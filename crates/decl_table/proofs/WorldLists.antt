@@ -1,9 +1,8 @@
 -- The lists of a small file's world, one element at a time.
-use Rattle.std.proofs.Common.{◌≡◌, ℕ, zero, suc, ◌+◌, ◌-◌, ◌<◌, ◌≤◌, List, [], ◌∷◌, ◌++◌, drop, map, Option, Some, None, refl, sym, ap, ◌∙◌, length, get_or, arith}
-use Rattle.std.specs.Prelude.{slice_get}
+use Rattle.std.proofs.Common.{◌≡◌, ℕ, suc, ◌+◌, ◌<◌, List, [], ◌∷◌, ◌++◌, drop, map, sym, ap, ◌∙◌, length, get_or, arith}
 use Rattle.std.proofs.lemmas.List.{length-map, append_assoc}
 use Rattle.java_tree.specs.declared.tree.TypeDecl as declared
-use Rattle.java_tree.specs.Plain.{TypeDecl, SourceUnit}
+use Rattle.java_tree.specs.Plain.{SourceUnit}
 use Rattle.java_tree.specs.View.{decl_plain, member_plain}
 use Rattle.class_world.specs.declared.world.TypeInfo.{TypeInfo}
 use Rattle.class_world.specs.declared.world.MethodInfo.{MethodInfo}

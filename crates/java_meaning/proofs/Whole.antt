@@ -1,5 +1,5 @@
 -- What is run by parts is the run, whatever the annotation and the arguments are.
-use Rattle.std.proofs.Common.{◌≡◌, ℕ, ◌⊎◌, inl, inr, List, Option, Some, None, Result, Ok, Err, IfOk, refl, sym, ◌∙◌, ap, subst}
+use Rattle.std.proofs.Common.{ℕ, ◌⊎◌, inl, inr, List, Option, Some, None, Result, Ok, Err, IfOk, sym, ◌∙◌, subst}
 use Rattle.java_tree.specs.declared.tree.Name.{Name}
 use Rattle.java_tree.specs.Plain.{SourceUnit}
 use Rattle.class_world.specs.declared.world.World.{World}

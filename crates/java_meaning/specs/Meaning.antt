@@ -1,8 +1,7 @@
 -- The meaning of the forms of small programs (JLS 12.5, 14 and 15). Trees know nothing of methods: what a call does is a part of the place that they run in.
-use Rattle.std.specs.Prelude.{◌≡◌, ℕ, zero, suc, ◌+◌, ◌==◌, nat_lt, ◌&&◌, Bool, true, false, if◌then◌else◌, List, [], ◌∷◌, ◌++◌, map, length, Option, Some, None, slice_get, option_and_then}
+use Rattle.std.specs.Prelude.{ℕ, zero, suc, ◌+◌, ◌==◌, nat_lt, ◌&&◌, Bool, true, false, if◌then◌else◌, List, [], ◌∷◌, ◌++◌, map, length, Option, Some, None, slice_get, option_and_then}
 use Rattle.std.specs.List.{find, list_all, position_or_len}
 use Rattle.std.specs.Str.{bytes_eq}
-use Rattle.java_tree.specs.declared.tree.Name.{Name}
 use Rattle.java_tree.specs.Plain as t
 use Rattle.java_tree.specs.Plain.{Expr, Exprs, Param, Stmt, Stmts, Member, TypeDecl, SourceUnit}
 use Rattle.class_world.specs.declared.world.World.{World}

@@ -1,14 +1,13 @@
 -- The run of a small program: main is entered with an array of arguments and a bound on the steps.
-use Rattle.std.specs.Prelude.{ℕ, zero, suc, ◌+◌, false, List, [], ◌∷◌, ◌++◌, map, length, Option, Some, None, slice_get}
+use Rattle.std.specs.Prelude.{ℕ, ◌+◌, false, List, [], ◌∷◌, map, length, Option, Some, None, slice_get}
 use Rattle.java_tree.specs.Plain.{TypeDecl, SourceUnit}
 use Rattle.class_world.specs.declared.world.JavaType.TheVariants as ty
 use Rattle.java_typing.specs.WorldOf.{numbers}
 use Rattle.java_typing.specs.Correspond.{Program}
-use Rattle.java_values.specs.declared.value.Value.{Value}
 use Rattle.java_values.specs.declared.value.Value.TheVariants as v
 use Rattle.java_values.specs.State.{Thing, Text, State}
 use Rattle.java_values.specs.State as values
-use Rattle.java_meaning.specs.Outcome.{Outcome, Gives, Threw, Bound, after}
+use Rattle.java_meaning.specs.Outcome.{Outcome, Gives, Threw, Bound}
 use Rattle.java_meaning.specs.Meaning.{enter}
 
 -- the number of the first method of the last of these types, where that of the first type has the number m

@@ -1,5 +1,5 @@
 -- The run of a small program in which no rule is broken, by its parts: no object is ever null, each has the class of its creation, and nothing is thrown.
-use Rattle.std.specs.Prelude.{◌≡◌, ℕ, zero, suc, ◌==◌, nat_lt, if◌then◌else◌, List, [], ◌∷◌, ◌++◌, length, Option, Some, None, slice_get}
+use Rattle.std.specs.Prelude.{ℕ, zero, suc, ◌==◌, nat_lt, if◌then◌else◌, List, [], ◌∷◌, ◌++◌, length, Option, Some, None, slice_get}
 use Rattle.java_tree.specs.declared.tree.Name.{Name}
 use Rattle.java_tree.specs.Plain as t
 use Rattle.java_tree.specs.Plain.{Stmts, SourceUnit}
@@ -7,7 +7,7 @@ use Rattle.class_world.specs.declared.world.World.{World}
 use Rattle.class_world.specs.Members.{IsChosen}
 use Rattle.java_typing.specs.Main.{main_steps}
 use Rattle.java_typing.specs.Typing.{step_type}
-use Rattle.java_meaning.specs.Meaning.{Body, BuiltIn, Declared, Default, bodies, constructor_of, superclass}
+use Rattle.java_meaning.specs.Meaning.{Body, Declared, bodies, constructor_of, superclass}
 use Rattle.java_meaning.specs.Run.{main_number}
 
 -- the steps that are left, the bytes printed and the methods entered

@@ -1,8 +1,7 @@
 -- Programs, and the correspondence of two programs whose classes, methods and nodes have the same numbers.
-use Rattle.std.specs.Prelude.{◌≡◌, ℕ, ◌⊎◌, List, [], ◌∷◌, Option, Some, None}
+use Rattle.std.specs.Prelude.{◌≡◌, ℕ, ◌⊎◌, List, [], ◌∷◌, Option, Some}
 use Rattle.java_tree.specs.declared.tree.Name.{Name}
 use Rattle.java_tree.specs.declared.tree.Node.{Node}
-use Rattle.java_tree.specs.declared.tree.BinOp.{BinOp}
 use Rattle.java_tree.specs.Plain as t
 use Rattle.java_tree.specs.Plain.{TypeExpr, Expr, MaybeExpr, Exprs, Var, Param, Stmt, Stmts, FieldDecl, MethodDecl, Member, TypeDecl, SourceUnit}
 use Rattle.class_world.specs.declared.world.World.{World}

@@ -1,7 +1,6 @@
 -- The typing of a small program, statement by statement and form by form.
-use Rattle.std.specs.Prelude.{◌≡◌, ℕ, Bool, true, if◌then◌else◌, ◌==◌, List, [], ◌∷◌, Option, Some, None, slice_get, option_and_then, unwrap_or}
+use Rattle.std.specs.Prelude.{◌≡◌, ℕ, true, if◌then◌else◌, ◌==◌, List, [], ◌∷◌, Option, Some, None, slice_get, option_and_then, unwrap_or}
 use Rattle.java_tree.specs.declared.tree.Name.{Name}
-use Rattle.java_tree.specs.declared.tree.Node.{Node}
 use Rattle.java_tree.specs.Plain as t
 use Rattle.java_tree.specs.Plain.{TypeExpr, Expr, Var, Param, Stmt, Stmts, Member, TypeDecl, SourceUnit}
 use Rattle.class_world.specs.declared.world.World.{World}

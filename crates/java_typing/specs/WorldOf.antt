@@ -1,6 +1,5 @@
 -- The declared types and methods of a small file. Of the built-in types it has the names, the supertypes and Object's constructor; small programs use no other member of theirs by number.
-use Rattle.std.specs.Prelude.{ℕ, zero, suc, ◌+◌, Bool, true, false, if◌then◌else◌, ◌==◌, nat_lt, List, [], ◌∷◌, ◌++◌, map, length, Option, Some, None, option_and_then, unwrap_or}
-use Rattle.std.specs.Option.{option_map}
+use Rattle.std.specs.Prelude.{ℕ, zero, suc, ◌+◌, true, false, if◌then◌else◌, ◌==◌, nat_lt, List, [], ◌∷◌, ◌++◌, map, length, Option, Some, None, option_and_then, unwrap_or}
 use Rattle.java_tree.specs.declared.tree.Name.{Name}
 use Rattle.java_tree.specs.declared.tree.Mod.{Mod}
 use Rattle.java_tree.specs.declared.tree.Mod.TheVariants as mods

@@ -1,5 +1,5 @@
 -- The state of a running program.
-use Rattle.std.specs.Prelude.{ℕ, ◌==◌, Bool, if◌then◌else◌, List, [], ◌∷◌, ◌++◌, length, Option, Some, None}
+use Rattle.std.specs.Prelude.{ℕ, ◌==◌, Bool, if◌then◌else◌, List, [], ◌∷◌, Option, Some, None}
 use Rattle.class_world.specs.declared.world.JavaType.{JavaType}
 use Rattle.java_values.specs.declared.value.Value.{Value}
 

@@ -1,5 +1,5 @@
 -- The old and the new program of a change of a local's type correspond.
-use Rattle.std.proofs.Common.{◌≡◌, ℕ, ◌+◌, ◌==◌, ◌⊎◌, inl, inr, Bool, true, false, List, [], ◌∷◌, map, Option, Some, None, refl, sym, ap, subst, ◌∙◌, arith}
+use Rattle.std.proofs.Common.{◌≡◌, ℕ, ◌+◌, ◌==◌, inl, inr, false, List, [], ◌∷◌, map, Option, Some, None, refl, sym, ap, subst, ◌∙◌}
 use Rattle.std.specs.Option.{option_map}
 use Rattle.std.proofs.lemmas.Bool.{cases_eq}
 use Rattle.java_tree.specs.declared.tree.Name.{Name}
@@ -10,13 +10,11 @@ use Rattle.java_lexer.specs.declared.token.Tok.{Tok}
 use Rattle.java_lexer.specs.Reads.{from_at}
 use Rattle.java_lexer.specs.Replaced.{Change}
 use Rattle.java_parse_decl.specs.Nodes.{stmt_nodes}
-use Rattle.java_parse_decl.specs.Grammar.{node_of, name_at, type_at, local_at, call_at, main_method, IsStep, AreSteps, Spells}
+use Rattle.java_parse_decl.specs.Grammar.{node_of, name_at, local_at, IsStep, AreSteps, Spells}
 use Rattle.class_world.specs.declared.world.World.{World}
 use Rattle.class_world.specs.declared.world.JavaType.{JavaType}
-use Rattle.class_world.specs.declared.world.JavaType.TheVariants as ty
-use Rattle.class_world.specs.Subtypes.{Subtype, IsBelow, IsClassTree, direct, through}
+use Rattle.class_world.specs.Subtypes.{IsBelow, IsClassTree, direct, through}
 use Rattle.class_world.specs.Members.{AreApart}
-use Rattle.class_world.specs.Lookup.{IsOrOverrides}
 use Rattle.class_world.proofs.Lookups.{chosen_overrides}
 use Rattle.java_typing.specs.declared.table.Use.{Use}
 use Rattle.java_typing.specs.declared.table.Use.TheVariants as use_of
@@ -27,12 +25,12 @@ use Rattle.java_typing.specs.Typing.{Local, scope_after, AreTyped, IsStmtTyped, 
 use Rattle.java_typing.specs.Correspond.{Program, IsProgramOf, Correspond, UsesAlike, StmtAlike, StmtsAlike, ParamsAlike, MembersAlike, TypesAlike}
 use Rattle.java_typing.specs.Correspond as alike
 use Rattle.check_decl.proofs.Constructors.{one_constructor, none_declared}
-use Rattle.constraint_terms.specs.Effect.{expr, var, type, param, stmt, stmts, member, decl, generalized}
+use Rattle.constraint_terms.specs.Effect.{expr, param, stmt, stmts, member, decl, generalized}
 use Rattle.constraint_terms.specs.Question as q
 use Rattle.tree_edit.specs.Order.{InOrder}
 use Rattle.tree_edit.proofs.Kept.{main_steps_changed}
 use Rattle.tree_edit.proofs.Standing.{elsewhere_at}
-use Rattle.tree_edit.proofs.MainSteps.{Main, main_is, main_body, local_sorts}
+use Rattle.tree_edit.proofs.MainSteps.{main_is, main_body, local_sorts}
 use Rattle.keep_laws.specs.Kept.{IsNameOf, CallKeeps}
 use Rattle.keep_laws.proofs.SameNames.{step_kept}
 use Rattle.keep_laws.proofs.SameWorld.{unit_alike, world_same}

@@ -1,9 +1,9 @@
 -- What each way that a call goes says of its answer.
-use Rattle.std.proofs.Common.{◌≡◌, ℕ, ◌⊎◌, inl, inr, List, ◌++◌, Option, Some, None, refl, sym, ◌∙◌, ap}
+use Rattle.std.proofs.Common.{◌≡◌, ℕ, inl, inr, List, ◌++◌, Option, Some, None, refl}
 use Rattle.tool_files.specs.Told.{Rose, Appends, AppendsSome}
 use Rattle.refactor_app.specs.declared.status.Status.{Status}
 use Rattle.refactor_app.specs.declared.status.Status.TheVariants as s
-use Rattle.refactor_app.specs.Answers.{IsDone, IsRefused, IsMissing, IsReadFault, IsWriteFault, IsOutFault, IsOne, Ends, IsCut}
+use Rattle.refactor_app.specs.Answers.{IsDone, IsRefused, IsMissing, IsReadFault, IsWriteFault, IsOutFault, IsOne, IsCut}
 use Rattle.refactor_app.specs.Course.{Moment, EndsAt, Course}
 use Rattle.refactor_app.specs.Course as way
 

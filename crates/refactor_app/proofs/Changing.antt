@@ -1,10 +1,9 @@
 -- From a plan to the change.
-use Rattle.std.proofs.Common.{◌≡◌, ℕ, ◌+◌, ◌-◌, ◌<◌, ◌≤◌, List, [], ◌∷◌, ◌++◌, map, length, take, drop, slice_get, Some, refl, sym, ◌∙◌, ap, subst, arith, append_assoc}
+use Rattle.std.proofs.Common.{◌≡◌, ℕ, ◌-◌, ◌≤◌, List, [], ◌∷◌, ◌++◌, map, length, take, drop, slice_get, Some, refl, sym, ◌∙◌, ap, subst, arith, append_assoc}
 use Rattle.java_tree.specs.declared.tree.Name.{Name}
 use Rattle.java_tree.specs.declared.tree.Node.{Node}
 use Rattle.java_tree.specs.declared.tree.Span.{Span}
 use Rattle.java_tree.specs.declared.tree.Head.TheVariants as head
-use Rattle.java_tree.specs.Names.{AreDistinct}
 use Rattle.java_tree.specs.Plain as t
 use Rattle.java_tree.specs.Plain.{SourceUnit}
 use Rattle.java_lexer.specs.declared.token.Tok.{Tok}
@@ -27,7 +26,7 @@ use Rattle.edit_writer.specs.declared.places.Place.{Place}
 use Rattle.java_typing.specs.WorldOf.{world_of}
 use Rattle.java_typing.specs.Typing.{Annotation, Annotates}
 use Rattle.constraint_terms.specs.Effect.{generalized}
-use Rattle.constraint_terms.specs.Question.{Local, Declares, IsUnmet}
+use Rattle.constraint_terms.specs.Question.{IsUnmet}
 use Rattle.tree_edit.specs.Order.{InOrder}
 use Rattle.tree_edit.proofs.Moved.{generalized_spells}
 use Rattle.tree_edit.proofs.MainSteps.{local_token}
@@ -38,8 +37,8 @@ use Rattle.generalize_type.specs.declared.small.SmallEdit.{SmallEdit}
 use Rattle.generalize_type.specs.Plans.{IsPlan}
 use Rattle.generalize_type.proofs.Types.{step_called}
 use Rattle.refactor_app.specs.Words.{Request}
-use Rattle.refactor_app.specs.Program.{Program, IsSmall, IsRead, IsReadBy, IsChecked, IsTypeNamed, IsAnnotated}
-use Rattle.refactor_app.specs.Verdicts.{Changes, Speaks, Names, asked}
+use Rattle.refactor_app.specs.Program.{Program, IsSmall, IsTypeNamed}
+use Rattle.refactor_app.specs.Verdicts.{Changes, asked}
 
 abbrev pub edit_of : SmallEdit → Edit
 edit_of e = record { from = e.from; to = e.to; text = e.text }

@@ -1,5 +1,5 @@
 -- From what a call's parts ensure to the way that it goes.
-use Rattle.std.proofs.Common.{◌≡◌, ℕ, zero, suc, ◌+◌, ◌<◌, ◌≤◌, ◌⊎◌, inl, inr, List, [], ◌∷◌, ◌++◌, length, take, Option, Some, None, Result, Ok, Err, IfOk, refl, sym, ◌∙◌, ap, subst, arith}
+use Rattle.std.proofs.Common.{◌≡◌, ℕ, zero, suc, ◌<◌, ◌≤◌, ◌⊎◌, inl, inr, List, [], ◌∷◌, length, take, Option, Some, None, Result, Ok, Err, IfOk, refl, sym, ◌∙◌, ap, subst, arith}
 use Rattle.std.specs.Prelude.{OnErr, codes}
 use Rattle.std.specs.String.{string_bytes}
 use Rattle.std.specs.declared.string.String.{String}
@@ -13,7 +13,6 @@ use Rattle.refactor_app.specs.declared.status.Status.{Status}
 use Rattle.refactor_app.specs.declared.status.Status.TheVariants as s
 use Rattle.refactor_app.specs.declared.decide.Changed.{Changed}
 use Rattle.refactor_app.specs.Words.{Request, Asks, out_name}
-use Rattle.refactor_app.specs.Program.{Program, IsSmall}
 use Rattle.refactor_app.specs.Verdicts.{Refuses}
 use Rattle.refactor_app.specs.Verdicts as verdict
 use Rattle.refactor_app.specs.Decided.{IsChange}

@@ -1,20 +1,15 @@
 -- From the parts of a program to what becomes of a request on it.
-use Rattle.std.proofs.Common.{◌≡◌, ℕ, ◌+◌, ◌<◌, ◌≤◌, ◌^◌, ◌⊎◌, inl, inr, List, [], ◌∷◌, length, slice_get, Option, Some, None, Result, Ok, Err, IfOk, refl, sym, ◌∙◌, ap, subst, arith}
+use Rattle.std.proofs.Common.{◌≡◌, ℕ, ◌<◌, ◌≤◌, ◌^◌, ◌⊎◌, inl, inr, List, [], ◌∷◌, length, Some, Result, Ok, Err, IfOk, refl, sym, ◌∙◌, ap, subst, arith}
 use Rattle.std.specs.Prelude.{if◌then◌else◌, ◌==◌, codes}
 use Rattle.std.proofs.lemmas.Option.{slice_get_within}
-use Rattle.java_tree.specs.declared.tree.Name.{Name}
-use Rattle.java_tree.specs.declared.tree.Node.{Node}
 use Rattle.java_tree.specs.declared.tree.Span.{Span}
 use Rattle.java_tree.specs.declared.tree.Head.TheVariants as head
 use Rattle.java_tree.specs.Names.{AreDistinct}
 use Rattle.java_tree.specs.Plain as t
 use Rattle.java_tree.specs.View.{unit_plain}
-use Rattle.java_lexer.specs.declared.token.Tok.{Tok}
 use Rattle.java_lexer.specs.Pieces.{IsIdentifier}
 use Rattle.java_lexer.proofs.TokenLemmas.{within}
 use Rattle.edit_writer.specs.declared.places.Place.{Place}
-use Rattle.edit_writer.specs.declared.edits.Edit.{Edit}
-use Rattle.edit_writer.specs.Edits.{edited, AreOrdered}
 use Rattle.edit_writer.specs.Places.{place_at}
 use Rattle.edit_writer.proofs.Lines.{low_place}
 use Rattle.class_world.specs.declared.world.World.{World}
@@ -22,7 +17,7 @@ use Rattle.class_world.specs.Subtypes.{IsBelow}
 use Rattle.java_typing.specs.Main.{before_last}
 use Rattle.java_typing.specs.WorldOf.{world_of, place_of}
 use Rattle.java_typing.specs.Typing.{StepsHold}
-use Rattle.constraint_terms.specs.Question.{Local, Declares, IsFirstUnmet, IsUnmet}
+use Rattle.constraint_terms.specs.Question.{IsFirstUnmet}
 use Rattle.tree_edit.proofs.MainSteps.{local_token}
 use Rattle.generalize_type.specs.declared.small.SmallEdit.{SmallEdit}
 use Rattle.generalize_type.specs.Given.{IsGiven}
@@ -34,7 +29,7 @@ use Rattle.refactor_app.specs.declared.program.Small.{Small}
 use Rattle.refactor_app.specs.declared.decide.Verdict.{Verdict}
 use Rattle.refactor_app.specs.declared.decide.Verdict.TheVariants as v
 use Rattle.refactor_app.specs.Words.{Request}
-use Rattle.refactor_app.specs.Program.{Program, IsSmall, IsTypeNamed}
+use Rattle.refactor_app.specs.Program.{Program, IsTypeNamed}
 use Rattle.refactor_app.specs.Small.{IsProgramOf, IsNoProgram, IsTarget, program_of}
 use Rattle.refactor_app.specs.Verdicts.{Refuses, IsNotSmall, HasNoPlace, Speaks, Names, asked}
 use Rattle.refactor_app.specs.Verdicts as verdict

@@ -1,5 +1,5 @@
 -- One request on one text has one verdict.
-use Rattle.std.proofs.Common.{◌≡◌, ℕ, ◌+◌, ◌<◌, ◌≤◌, ◌⊎◌, inl, inr, List, [], ◌∷◌, length, slice_get, Option, Some, None, refl, sym, ◌∙◌, ap, subst, arith}
+use Rattle.std.proofs.Common.{◌≡◌, ℕ, ◌+◌, ◌<◌, ◌⊎◌, inl, inr, List, [], ◌∷◌, length, Option, Some, None, refl, sym, ◌∙◌, ap, subst, arith}
 use Rattle.std.specs.Prelude.{if◌then◌else◌, ◌==◌, codes}
 use Rattle.java_tree.specs.declared.tree.Name.{Name}
 use Rattle.java_tree.specs.declared.tree.Node.{Node}
@@ -9,7 +9,6 @@ use Rattle.java_tree.specs.Plain as t
 use Rattle.java_tree.specs.Plain.{Stmt}
 use Rattle.java_lexer.proofs.TokenLemmas.{within}
 use Rattle.java_parse_decl.specs.Grammar.{IsStep}
-use Rattle.edit_writer.specs.declared.places.Place.{Place}
 use Rattle.edit_writer.specs.declared.edits.Edit.{Edit}
 use Rattle.edit_writer.specs.Edits.{edited}
 use Rattle.edit_writer.specs.Places.{place_at}

@@ -1,12 +1,12 @@
 -- One text has one small program.
-use Rattle.std.proofs.Common.{◌≡◌, ℕ, ◌+◌, ◌<◌, ◌≤◌, Bool, true, false, cond, List, [], ◌∷◌, length, refl, sym, ◌∙◌, ap, subst, arith}
-use Rattle.java_tree.specs.Names.{AreDistinct, IsFront, IsTable, built_in_names, with_text}
+use Rattle.std.proofs.Common.{◌≡◌, ℕ, ◌<◌, ◌≤◌, Bool, true, false, cond, List, [], ◌∷◌, length, refl, sym, subst, arith}
+use Rattle.java_tree.specs.Names.{AreDistinct, IsTable, built_in_names, with_text}
 use Rattle.java_tree.proofs.Tables.{built_in_table, with_text_table}
 use Rattle.java_tree.specs.View.{unit_plain}
 use Rattle.java_tree.specs.declared.tree.SourceUnit.{SourceUnit}
 use Rattle.java_tree.specs.Plain as t
 use Rattle.java_lexer.specs.declared.token.Tok.{Tok}
-use Rattle.java_lexer.specs.Lexing.{Lexes, LexesFrom, LexesFirst, with_piece, interned}
+use Rattle.java_lexer.specs.Lexing.{Lexes, LexesFirst, with_piece, interned}
 use Rattle.java_lexer.specs.Pieces.{Piece, Blank, Word, Text, Mark, is_reserved}
 use Rattle.java_lexer.proofs.TokenLemmas.{count}
 use Rattle.java_lexer.proofs.LexLemmas.{one_first}
@@ -15,8 +15,8 @@ use Rattle.java_parse_decl.proofs.Complete.{one}
 use Rattle.java_typing.specs.WorldOf.{world_of}
 use Rattle.java_typing.specs.Declarations.{DeclarationsHold}
 use Rattle.java_typing.specs.Typing.{StepsHold}
-use Rattle.refactor_app.specs.Program.{Program, IsSmall, IsRead}
-use Rattle.refactor_app.specs.Small.{HasTokens, HasTree, IsNoProgram, program_of}
+use Rattle.refactor_app.specs.Program.{Program, IsRead}
+use Rattle.refactor_app.specs.Small.{HasTree, IsNoProgram, program_of}
 
 -- no tokens, no program
 pub no_tokens : (text : List ℕ) → ((table : List (List ℕ)) (ts : List Tok) → Lexes table text ts → ⊥) → IsNoProgram text

@@ -1,5 +1,5 @@
 -- What an answer of `refactor` says of the words, of what the files held and hold, and of what was put.
-use Rattle.std.specs.Prelude.{◌≡◌, ℕ, ◌≤◌, ◌⊎◌, List, Option, Some, None, codes}
+use Rattle.std.specs.Prelude.{◌≡◌, ℕ, ◌⊎◌, List, Option, Some, None, codes}
 use Rattle.tool_files.specs.Told.{Look, Rose, SameBut, WhereTold, PutsAt, Appends, AppendsSome}
 use Rattle.edit_writer.specs.declared.edits.Edit.{Edit}
 use Rattle.refactor_app.specs.declared.status.Status.{Status}

@@ -1,5 +1,5 @@
 -- A small program: a text with its names, tokens, tree and world, in which no rule is broken.
-use Rattle.std.specs.Prelude.{◌≡◌, ℕ, ◌≤◌, if◌then◌else◌, ◌==◌, List, Option, Some, slice_get, length}
+use Rattle.std.specs.Prelude.{◌≡◌, ℕ, ◌≤◌, if◌then◌else◌, ◌==◌, List, Some, slice_get, length}
 use Rattle.java_tree.specs.Plain.{SourceUnit}
 use Rattle.java_lexer.specs.declared.token.Tok.{Tok}
 use Rattle.java_lexer.specs.Lexing.{Lexes, LexesFirst}

@@ -1,12 +1,9 @@
 -- Small programs, as the code has them.
-use Rattle.std.specs.Prelude.{◌≡◌, ℕ, ◌≤◌, List, [], length}
+use Rattle.std.specs.Prelude.{ℕ, List, []}
 use Rattle.java_tree.specs.View.{unit_plain}
 use Rattle.java_tree.specs.declared.tree.SourceUnit.{SourceUnit}
 use Rattle.java_lexer.specs.declared.token.Tok.{Tok}
 use Rattle.java_lexer.specs.Lexing.{LexesFirst}
-use Rattle.java_parse_decl.specs.Grammar.{Spells}
-use Rattle.java_typing.specs.WorldOf.{world_of}
-use Rattle.java_typing.specs.Typing.{StepsHold}
 use Rattle.decl_table.specs.Built.{IsBuilt}
 use Rattle.refactor_app.specs.declared.program.Small.{Small}
 use Rattle.refactor_app.specs.Program.{Program, IsRead, IsSmall, IsTypeNamed}

@@ -1,11 +1,10 @@
 -- What becomes of a request on a text: the first rule or constraint that stands against it, or the change.
-use Rattle.std.specs.Prelude.{◌≡◌, ℕ, ◌<◌, ◌⊎◌, List, [], ◌∷◌, length, Some, slice_get, codes}
+use Rattle.std.specs.Prelude.{◌≡◌, ℕ, List, [], ◌∷◌, length, Some, slice_get, codes}
 use Rattle.java_tree.specs.declared.tree.Node.{Node}
 use Rattle.edit_writer.specs.declared.places.Place.{Place}
 use Rattle.edit_writer.specs.declared.edits.Edit.{Edit}
 use Rattle.edit_writer.specs.Places.{place_at}
 use Rattle.edit_writer.specs.Edits.{edited}
-use Rattle.java_lexer.specs.Replaced.{Change}
 use Rattle.class_world.specs.Subtypes.{IsBelow}
 use Rattle.java_typing.specs.WorldOf.{world_of}
 use Rattle.java_typing.specs.Correspond.{IsProgramOf}

@@ -1,4 +1,4 @@
-use Rattle.std.proofs.Common.{sym, subst, ap, ◌∙◌, ◌↔◌, IsTrue, Some, None, [], ◌≡◌, true, false}
+use Rattle.std.proofs.Common.{sym, subst, ap, ◌∙◌, ◌↔◌, IsTrue, Some, None, [], ◌≡◌}
 use Rattle.java_tree.specs.Plain as t
 use Rattle.java_tree.specs.View.{plain, plains}
 use Rattle.java_tree.proofs.Views.{plain_call_on}

@@ -1,6 +1,5 @@
-use Rattle.std.proofs.Common.{sym, subst, ◌∙◌, IfOk, IsTrue, ◌↔◌}
+use Rattle.std.proofs.Common.{subst, IfOk, IsTrue, ◌↔◌}
 use Rattle.java_tree.specs.View.{unit_plain}
-use Rattle.java_tree.specs.Plain.{Stmts}
 use Rattle.check_decl.specs.Holds.{AllHold, at_start}
 use Rattle.check_decl.proofs.check.check_small.Goals as goal
 

@@ -1,4 +1,4 @@
-use Rattle.std.proofs.Common.{sym, ap, ◌∙◌}
+use Rattle.std.proofs.Common.{sym, ap}
 use Rattle.std.specs.Option.{option_map}
 use Rattle.java_tree.specs.View.{plain, type_plain, var_plain}
 use Rattle.check_decl.proofs.Decided.{local_refused, local_decided}

@@ -1,7 +1,6 @@
 use Rattle.std.proofs.Common.{sym, subst, [], ◌∷◌}
 use Rattle.java_tree.specs.View.{unit_plain, param_plain}
 use Rattle.check_decl.specs.Scopes.{Binds}
-use Rattle.check_decl.specs.Holds.{at_start}
 use Rattle.check_decl.proofs.Starts.{arguments_of, starts, has_first}
 use Rattle.check_decl.proofs.check.main_scope.Goals.{in-Some+in_ok-insert, in_default}
 use Rattle.check_decl.proofs.check.main_scope.Goals as goal

@@ -1,6 +1,6 @@
-use Rattle.std.proofs.Common.{sym, subst, ap, ◌∙◌, ◌∷◌, [], map, length, Ok, arith}
+use Rattle.std.proofs.Common.{sym, subst, ap, ◌∙◌, map, length, Ok, arith}
 use Rattle.java_tree.specs.Plain as t
-use Rattle.java_tree.specs.View.{type_plain, var_plain, plain}
+use Rattle.java_tree.specs.View.{type_plain, var_plain}
 use Rattle.java_tree.proofs.Views.{plain_local, plain_value}
 use Rattle.check_decl.specs.Holds.{StepHolds, Decides}
 use Rattle.check_decl.proofs.Decided.{no_local, two_locals, one_item}

@@ -1,4 +1,4 @@
-use Rattle.std.proofs.Common.{sym, subst, ◌∙◌, refl, IsTrue, false}
+use Rattle.std.proofs.Common.{sym, ◌∙◌, refl}
 use Rattle.java_tree.specs.View.{stmt_plain}
 use Rattle.java_typing.specs.Typing.{scope_after}
 use Rattle.check_decl.proofs.Decided.{first_holds, all_done}

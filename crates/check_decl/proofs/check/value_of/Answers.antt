@@ -1,4 +1,4 @@
-use Rattle.std.proofs.Common.{sym, subst, ◌∙◌}
+use Rattle.std.proofs.Common.{sym, subst}
 use Rattle.java_tree.proofs.Views.{plain_name, plain_new}
 use Rattle.java_tree.specs.View.{type_plain}
 use Rattle.check_decl.specs.declared.scope.Binding.TheVariants as binding

@@ -1,4 +1,4 @@
-use Rattle.std.proofs.Common.{◌≡◌, Ok, ap, ◌∙◌, refl}
+use Rattle.std.proofs.Common.{Ok, ap, ◌∙◌}
 use Rattle.java_tree.specs.Plain.{SourceUnit}
 use Rattle.class_world.specs.Members.{AreApart}
 use Rattle.java_typing.specs.Declarations.{NamesAreFree}

@@ -1,4 +1,4 @@
-use Rattle.std.proofs.Common.{◌≡◌, arith}
+use Rattle.std.proofs.Common.{arith}
 use Rattle.decl_table.proofs.Lists.{methods_from}
 use Rattle.decl_table.proofs.rules.are_few.Goals as goal
 

@@ -1,5 +1,3 @@
-use Rattle.std.proofs.Common.{◌≡◌, ◌+◌, ◌≤◌, ◌<◌, ℕ, get_or, length, set, arith, rules, ap, sym, ◌∙◌}
-use Rattle.decl_table.specs.Numbered.{IsSuperclass}
 use Rattle.decl_table.proofs.Walks.{step, met, none_above, above_itself}
 use Rattle.decl_table.proofs.tree.climb.Goals as goal
 

@@ -1,4 +1,3 @@
-use Rattle.std.proofs.Common.{ℕ}
 use Rattle.std.specs.Prelude.{count_by, ◌==◌}
 use Rattle.decl_table.proofs.Walks.{IsClimbing}
 use Rattle.decl_table.proofs.tree.climb.Given as goal

@@ -1,5 +1,4 @@
-use Rattle.std.proofs.Common.{◌≡◌, ◌+◌, ◌≤◌, ◌<◌, ℕ, List, ◌++◌, take, drop, replicate, get_or, length, arith, rules, ap, sym, ◌∙◌}
-use Rattle.decl_table.specs.Numbered.{IsNumbered}
+use Rattle.std.proofs.Common.{◌≡◌, ◌++◌, take, drop, replicate, length, arith, rules, ap, ◌∙◌}
 use Rattle.decl_table.proofs.Walks.{fresh, ranked_all, written, one_more}
 use Rattle.decl_table.proofs.tree.is_tree.Goals as goal
 

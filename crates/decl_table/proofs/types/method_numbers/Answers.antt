@@ -1,4 +1,4 @@
-use Rattle.std.proofs.Common.{◌≡◌, ◌+◌, ◌-◌, ◌++◌, ap, sym, ◌∙◌, arith}
+use Rattle.std.proofs.Common.{◌+◌, ◌-◌, ◌++◌, ap, sym, ◌∙◌, arith}
 use Rattle.java_typing.specs.WorldOf as world
 use Rattle.decl_table.proofs.Lists.{pushed}
 use Rattle.decl_table.proofs.WorldLists.{numbers_more}

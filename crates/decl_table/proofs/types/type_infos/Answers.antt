@@ -1,12 +1,10 @@
-use Rattle.std.proofs.Common.{◌≡◌, ℕ, ◌+◌, ◌<◌, ◌≤◌, ◌++◌, Some, None, length, get_or, map, drop, refl, sym, ap, ◌∙◌, ⊎_elim, arith, IsSome}
+use Rattle.std.proofs.Common.{◌≡◌, ◌+◌, ◌<◌, ◌++◌, Some, length, get_or, map, drop, sym, ap, ◌∙◌, ⊎_elim, arith}
 use Rattle.std.specs.Prelude.{slice_get}
 use Rattle.std.proofs.lemmas.Bool.{cases_lt}
 use Rattle.std.proofs.lemmas.List.{length-map}
 use Rattle.std.proofs.lemmas.Option.{slice_get_within}
-use Rattle.java_tree.specs.Plain.{TypeDecl}
 use Rattle.java_tree.specs.View.{decl_plain, unit_plain}
 use Rattle.java_typing.specs.WorldOf.{superclass_of, infos_of}
-use Rattle.java_typing.specs.Declarations.{written_methods}
 use Rattle.decl_table.proofs.Lists.{methods_from, item_by, not_none, is_there}
 use Rattle.decl_table.proofs.WorldLists.{infos_more}
 use Rattle.decl_table.proofs.types.type_infos.Goals as goal

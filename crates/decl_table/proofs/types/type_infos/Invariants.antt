@@ -1,4 +1,4 @@
-use Rattle.std.proofs.Common.{◌≡◌, ℕ, ◌+◌, ◌<◌, ◌≤◌, ◌++◌, Some, drop, length, map, IsSome}
+use Rattle.std.proofs.Common.{◌≡◌, ℕ, ◌+◌, ◌<◌, ◌≤◌, ◌++◌, Some, drop, map, IsSome}
 use Rattle.std.specs.Prelude.{slice_get}
 use Rattle.java_tree.specs.Plain.{TypeDecl}
 use Rattle.java_tree.specs.View.{decl_plain, unit_plain}

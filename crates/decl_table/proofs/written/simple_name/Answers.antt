@@ -1,4 +1,4 @@
-use Rattle.std.proofs.Common.{◌≡◌, ◌≢◌, [], inl, inr, refl, sym}
+use Rattle.std.proofs.Common.{inl, inr, sym}
 use Rattle.decl_table.proofs.SimpleNames.{not_simple}
 use Rattle.decl_table.proofs.written.simple_name.Goals as goal
 use Rattle.decl_table.proofs.written.simple_name.Goals.{else-is_empty-via-then-is_empty+else-ty-eq0, else-is_empty-via-else-is_empty}

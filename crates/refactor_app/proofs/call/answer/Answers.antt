@@ -1,4 +1,4 @@
-use Rattle.std.proofs.Common.{◌≡◌, refl, sym, ◌∙◌}
+use Rattle.std.proofs.Common.{refl}
 use Rattle.refactor_app.proofs.Courses.{refuse, finished}
 use Rattle.refactor_app.proofs.call.answer.Goals as goal
 

@@ -1,4 +1,4 @@
-use Rattle.std.proofs.Common.{◌≡◌, ◌⊎◌, ℕ, List, [], inl, inr, Err, refl, sym, ◌∙◌, ap, subst, rules, arith}
+use Rattle.std.proofs.Common.{◌≡◌, ℕ, List, inl, inr, Err, refl, ◌∙◌, ap, subst, arith}
 use Rattle.tool_files.specs.Told.{Reads}
 use Rattle.refactor_app.specs.Asked.{request_of}
 use Rattle.refactor_app.specs.Course as way

@@ -1,4 +1,4 @@
-use Rattle.std.proofs.Common.{◌≡◌, ◌∙◌, List, ℕ, IfOk, codes, refl, sym, ap, subst}
+use Rattle.std.proofs.Common.{codes}
 use Rattle.report_text.specs.Report.{refused}
 use Rattle.refactor_app.specs.Asked.{request_of}
 use Rattle.refactor_app.proofs.Deciding.{distinct, no_program, no_target, refused_by}

@@ -1,13 +1,12 @@
-use Rattle.std.proofs.Common.{◌≡◌, ◌∙◌, ◌⊎◌, inl, inr, List, ℕ, IfOk, codes, Err, refl, sym, ap, subst, rules, arith}
+use Rattle.std.proofs.Common.{◌∙◌, inl, inr, IfOk, codes, Err, sym, ap, subst, arith}
 use Rattle.edit_writer.specs.declared.places.Place.{Place}
-use Rattle.generalize_type.specs.declared.small.SmallAgainst.TheVariants as against
-use Rattle.generalize_type.specs.Plans.{HasNoPlace, IsNotAbove, IsRefusedAt, IsPlan}
+use Rattle.generalize_type.specs.Plans.{HasNoPlace, IsNotAbove, IsRefusedAt}
 use Rattle.java_tree.specs.View.{unit_plain}
 use Rattle.report_text.specs.Report.{refused, refused_at}
 use Rattle.refactor_app.specs.Asked.{request_of}
 use Rattle.refactor_app.specs.Verdicts.{asked}
-use Rattle.refactor_app.specs.Decided.{IsLine, IsPlanned}
-use Rattle.refactor_app.proofs.Deciding.{given, target_low, too_far, no_place, not_above, unmet, has_call, planned, refused_by}
+use Rattle.refactor_app.specs.Decided.{IsLine}
+use Rattle.refactor_app.proofs.Deciding.{given, target_low, too_far, no_place, not_above, unmet, has_call, refused_by}
 use Rattle.refactor_app.proofs.decide.judge.Goals as goal
 
 pub returns-in_default : goal.returns-in_default

@@ -1,4 +1,4 @@
-use Rattle.std.proofs.Common.{◌≡◌, Err, sym, ◌∙◌, ap, subst, rules}
+use Rattle.std.proofs.Common.{Err, sym, ◌∙◌, ap, subst}
 use Rattle.java_tree.specs.View.{unit_plain}
 use Rattle.java_typing.specs.Typing.{StepsHold}
 use Rattle.class_world.specs.declared.world.World.{World}

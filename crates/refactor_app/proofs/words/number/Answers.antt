@@ -1,5 +1,4 @@
-use Rattle.std.proofs.Common.{◌≡◌, ℕ, ◌<◌, ◌≤◌, sym, ◌∙◌, ap, subst, rules, arith}
-use Rattle.refactor_app.specs.Words.{IsNumber}
+use Rattle.std.proofs.Common.{◌≡◌, rules, arith}
 use Rattle.refactor_app.specs.Numbers.{BeginsNumber}
 use Rattle.refactor_app.proofs.Numbers.{written, begins, parsed}
 use Rattle.refactor_app.proofs.words.number.Goals as goal

@@ -1,7 +1,6 @@
-use Rattle.std.proofs.Common.{◌≡◌, ℕ, ◌<◌, List, [], ◌∷◌, length, map, IsTrue, IfNone, refl, sym, ◌∙◌, ap, rules, arith}
+use Rattle.std.proofs.Common.{◌≡◌, map, IsTrue, ◌∙◌, ap, rules, arith}
 use Rattle.std.specs.String.{string_bytes}
-use Rattle.refactor_app.specs.Words.{Request, Asks}
-use Rattle.refactor_app.proofs.Asking.{eight, words_of, asks, asks_none, eight_long}
+use Rattle.refactor_app.proofs.Asking.{eight, words_of, asks, asks_none}
 use Rattle.refactor_app.proofs.words.read_words.Goals as goal
 
 -- the words, in the order of a request

@@ -1,4 +1,4 @@
-use Rattle.std.proofs.Common.{◌≡◌, ◌+◌, ◌≤◌, ◌<◌, ℕ, Some, None, cond, eqb, nat_eq, List, [], take, map, length, arith, ap, sym, ◌∙◌}
+use Rattle.std.proofs.Common.{◌≡◌, ◌+◌, ℕ, Some, None, cond, eqb, nat_eq, List, [], take, map, arith, ap, sym, ◌∙◌}
 use Rattle.java_tree.specs.View.{decl_plain}
 use Rattle.java_tree.specs.declared.tree.TypeDecl.{TypeDecl}
 use Rattle.java_typing.specs.Main.{before_last}
