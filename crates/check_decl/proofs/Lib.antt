@@ -2,7 +2,6 @@ pub mod Steps
 pub mod Annotated
 pub mod Prints
 pub mod Constructors
-pub mod Names
 pub mod Values
 pub mod Decided
 pub mod Starts

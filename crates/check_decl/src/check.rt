@@ -10,46 +10,17 @@ ghost use Rattle.class_world.specs.declared.world.JavaType as types;
 ghost use Rattle.class_world.specs.declared.world.JavaType.TheVariants as ty;
 ghost use Rattle.class_world.specs.declared.world.World as worlds;
 ghost use Rattle.class_world.specs.Subtypes.{IsClassTree, Subtype};
-ghost use Rattle.java_typing.specs.WorldOf as spec;
-ghost use Rattle.java_typing.specs.Typing.{Local, StepsHold, step_type};
-ghost use Rattle.decl_table.specs.Classes.{Numbers};
+ghost use Rattle.java_typing.specs.Typing.{Local, StepsHold};
 ghost use Rattle.check_decl.specs.Scopes.{Binds, Calls, Describes};
 ghost use Rattle.check_decl.specs.Holds.{at_start, AllHold, AreOf, CallHolds, Decides, IsReady, IsValueOf};
 
 use crate::scope::{Binding, Scope};
 use class_world::{World, find_method, is_sub_class};
-use decl_table::{ClassTable, Declared};
+use decl_table::Declared;
 use java_tree::NoMemory;
-use java_tree::tree::{Expr, ExprForm, Head, Name, SourceUnit, Stmt, StmtForm, TypeExpr, Var};
+use java_tree::tree::{Expr, ExprForm, Name, SourceUnit, Stmt, StmtForm, TypeExpr, Var};
 use java_typing::{main_param, main_steps};
 use std::alloc::Global;
-
-/// The simple name that a type is written by, without arguments and brackets.
-fn simple_name(ty: &TypeExpr) -> Option<Name>
-    ensures { result ≡ spec.simple_name (type_plain ty.now) }
-{
-    if ty.dims != 0 || !ty.args.is_empty() {
-        return None;
-    }
-    let Head::Path(path) = &ty.head else {
-        return None;
-    };
-    match path.as_slice() {
-        [name] => Some(*name),
-        _ => None,
-    }
-}
-
-/// The number of the class that a step names: Object, or a class of the file that is not main's.
-fn step_class(classes: &ClassTable, ty: &TypeExpr) -> Option<u32>
-    ensures { (u : t.SourceUnit) → Numbers classes.now u → result ≡ step_type u (type_plain ty.now) }
-{
-    let name = simple_name(ty)?;
-    if name.0 == 0 {
-        return Some(0);
-    }
-    classes.get(name)
-}
 
 /// What a step's expression gives (T25, T38).
 fn value_of(declared: &Declared, scope: &Scope, e: &Expr) -> Option<Binding>
@@ -61,7 +32,7 @@ fn value_of(declared: &Declared, scope: &Scope, e: &Expr) -> Option<Binding>
             if !args.is_empty() {
                 return None;
             }
-            Some(Binding::Object(step_class(&declared.classes, ty)?))
+            Some(Binding::Object(declared.classes.step_class(ty)?))
         }
         _ => None,
     }
@@ -122,7 +93,7 @@ fn local_holds(
     ensures { (u : t.SourceUnit) (ls : List Local) (n : nodes.Node) (f : Bool) → AreOf declared.now u → Binds scope.old ls
         → Decides u declared.now.world ls (t.Local n f (type_plain ty.now) (var_plain var.now ∷ [])) scope.new result }
 {
-    let Some(class) = step_class(&declared.classes, ty) else {
+    let Some(class) = declared.classes.step_class(ty) else {
         return Ok(false);
     };
     let Some(init) = &var.init else {

@@ -1,10 +1,13 @@
 //! The numbers of a file's classes, by name.
 
 ghost use Rattle.std.specs.Prelude.{◌≡◌, ◌≤◌, length, map, None, Ok, IfOk, IfSome};
-ghost use Rattle.java_tree.specs.View.{decl_plain, unit_plain};
+ghost use Rattle.java_tree.specs.Plain as t;
+ghost use Rattle.java_tree.specs.View.{decl_plain, type_plain, unit_plain};
+ghost use Rattle.java_typing.specs.Typing.{step_type};
 ghost use Rattle.decl_table.specs.Classes.{number_in, Numbers, HaveOwnNames};
 
-use java_tree::tree::{Name, SourceUnit};
+use crate::written::simple_name;
+use java_tree::tree::{Name, SourceUnit, TypeExpr};
 use java_tree::{BUILT_IN_TYPES, NoMemory};
 use std::alloc::Global;
 use std::collections::HashMap;
@@ -21,6 +24,17 @@ impl ClassTable {
         ensures { result ≡ number_in self.now name }
     {
         self.numbers.get(&name.0).copied()
+    }
+
+    /// The number of the class that a statement of main names: Object, or a class of the file that is not main's.
+    pub fn step_class(&self, ty: &TypeExpr) -> Option<u32>
+        ensures { (u : t.SourceUnit) → Numbers self.now u → result ≡ step_type u (type_plain ty.now) }
+    {
+        let name = simple_name(ty)?;
+        if name.0 == 0 {
+            return Some(0);
+        }
+        self.get(name)
     }
 
     /// The table of a file, or `None` where two types have one name (S23).

@@ -3,14 +3,12 @@
 ghost use Rattle.std.specs.Prelude.{◌≡◌};
 ghost use Rattle.std.specs.Option.{option_copied};
 ghost use Rattle.java_tree.specs.Plain as t;
-ghost use Rattle.java_tree.specs.View.{plain, plains, type_plain, stmt_plain};
-ghost use Rattle.java_typing.specs.WorldOf as world;
-ghost use Rattle.java_typing.specs.Typing.{step_type};
+ghost use Rattle.java_tree.specs.View.{plain, plains, stmt_plain};
 ghost use Rattle.decl_table.specs.Classes.{Numbers};
 ghost use Rattle.java_meaning.specs.Steps as spec;
 
 use decl_table::ClassTable;
-use java_tree::tree::{Expr, ExprForm, Head, Name, Stmt, StmtForm, TypeExpr};
+use java_tree::tree::{Expr, ExprForm, Name, Stmt, StmtForm};
 
 /// A local that is initialised with a new object of a class, by number.
 #[derive(Clone, Copy)]
@@ -26,33 +24,6 @@ pub(crate) struct LocalCall {
     pub method: Name,
 }
 
-/// The simple name that a type is written by, without arguments and brackets.
-fn simple_name(ty: &TypeExpr) -> Option<Name>
-    ensures { result ≡ world.simple_name (type_plain ty.now) }
-{
-    if ty.dims != 0 || !ty.args.is_empty() {
-        return None;
-    }
-    let Head::Path(path) = &ty.head else {
-        return None;
-    };
-    match path.as_slice() {
-        [name] => Some(*name),
-        _ => None,
-    }
-}
-
-/// The number of the class that a step names: Object, or a class of the file that is not main's.
-fn step_class(classes: &ClassTable, ty: &TypeExpr) -> Option<u32>
-    ensures { (u : t.SourceUnit) → Numbers classes.now u → result ≡ step_type u (type_plain ty.now) }
-{
-    let name = simple_name(ty)?;
-    if name.0 == 0 {
-        return Some(0);
-    }
-    classes.get(name)
-}
-
 /// The class of the object that an expression creates (JLS 15.9).
 fn created(classes: &ClassTable, e: &Expr) -> Option<u32>
     ensures { (u : t.SourceUnit) → Numbers classes.now u → result ≡ spec.created u (plain e.now) }
@@ -63,7 +34,7 @@ fn created(classes: &ClassTable, e: &Expr) -> Option<u32>
     if !args.is_empty() {
         return None;
     }
-    step_class(classes, ty)
+    classes.step_class(ty)
 }
 
 /// What a statement of main creates for a local (JLS 14.4).

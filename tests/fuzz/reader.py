@@ -1,0 +1,488 @@
+"""The plain reader: what jgen has to answer to given words and files.
+
+The rules are read one by one, in the order in which their refusals come, and nothing is shared with the program
+under test. Words become a request, bytes become tokens, tokens become a small program; then come the refusals of
+the command, the edit and the report.
+"""
+import bisect
+import re
+from typing import NamedTuple, Optional, Union
+
+MOST_BYTES = 1_048_576
+MOST_TYPES = 4_096
+MOST_METHODS = 65_536
+LONGEST_FILE_NAME = 255
+
+DONE, REFUSED, MISSING, READ_FAULT, WRITE_FAULT, OUT_FAULT, NO_WORDS = 0, 1, 3, 4, 5, 6, 8
+
+RESERVED = frozenset("""
+    abstract assert boolean break byte case catch char class const continue default do double else enum extends
+    final finally float for goto if implements import instanceof int interface long native new package private
+    protected public return short static strictfp super switch synchronized this throw throws transient try void
+    volatile while true false null
+    """.split())
+
+BUILT_IN_TYPES = frozenset("""
+    Object String System PrintStream Throwable Exception Error RuntimeException ArithmeticException
+    NullPointerException ClassCastException ArrayStoreException NegativeArraySizeException
+    IndexOutOfBoundsException ArrayIndexOutOfBoundsException StringIndexOutOfBoundsException
+    """.split())
+
+# Both built-in packages, java.lang and java.io, begin with this identifier.
+PACKAGES_BEGIN_WITH = "java"
+
+# Method names that the language profile leaves out. No method of a class has parameters here.
+LEFT_OUT_METHODS = frozenset("getClass notify notifyAll clone finalize wait".split())
+
+# Object's methods without parameters. Both have a result, so that no void method may override them.
+OBJECT_METHODS = frozenset("toString hashCode".split())
+
+
+class Answer(NamedTuple):
+    """What the program has to do: its exit status, the bytes it prints, and the files it writes."""
+    kind: str
+    status: int
+    report: bytes
+    writes: dict
+    why: str = ""
+
+
+def answer(words, files, folders, whole):
+    """The answer to `words`, a list of bytes, where `files` maps names to bytes and `folders` lists folders."""
+    try:
+        words = [word.decode("utf-8") for word in words]
+    except UnicodeDecodeError:
+        return Answer("no words", NO_WORDS, b"", {}, "a word is not UTF-8")
+    request = read_words(words)
+    if request is None:
+        return refused("N1", "-", "not the eight words")
+    if request.file in folders or len(request.file) > LONGEST_FILE_NAME:
+        return Answer("read fault", READ_FAULT, b"read fault %s\n" % request.file.encode(), {})
+    if request.file not in files:
+        return Answer("missing", MISSING, b"missing %s\n" % request.file.encode(), {})
+    text = files[request.file]
+    try:
+        program = read_program(text, whole)
+        require_target(program, request.target)
+    except NotSmall as reason:
+        return refused("N2", "-", str(reason))
+    refusal = first_refusal(program, text, request)
+    if refusal is not None:
+        rule, node = refusal
+        place = "-" if node is None else "%s:%d:%d" % (request.file, *Lines(text).place(node))
+        return refused(rule, place)
+    written = "%s/%s" % (request.out, request.file)
+    if not can_write(request.out, written, files, folders):
+        return Answer("write fault", WRITE_FAULT, b"write fault %s\n" % written.encode(), {})
+    return done(program, text, request, written)
+
+
+def refused(rule, place, why=""):
+    return Answer(rule, REFUSED, b"refused %s %s\n" % (rule.encode(), place.encode()), {}, why)
+
+
+def can_write(out, written, files, folders):
+    """Whether a real folder takes the new file: OUT is no file, the new file is no folder, no name is too long."""
+    return out not in files and written not in folders and len(out) <= LONGEST_FILE_NAME
+
+
+def done(program, text, request, written):
+    """The edit, in the report and in the new file: the declared type that begins at the place becomes TYPE."""
+    old = declared_at(program, text, request).type
+    begin, end, new = old.at, old.at + len(old.text), request.target.encode()
+    edit = b"edit %s %d %d %d %s\n" % (request.file.encode(), begin, end, len(new), new)
+    return Answer("done", DONE, edit + b"done 1 edits\n", {written: text[:begin] + new + text[end:]})
+
+
+# The words.
+
+class Request(NamedTuple):
+    """What the eight words ask for."""
+    out: str
+    file: str
+    line: int
+    column: int
+    target: str
+
+
+def read_words(words):
+    """The request of `generalize OUT FILE LINE COL TYPE -- FILE`, or None."""
+    if len(words) != 8:
+        return None
+    command, out, file, line, column, target, dashes, again = words
+    right = (command == "generalize" and is_part(out) and is_part(file) and is_number(line) and is_number(column)
+             and is_identifier(target) and dashes == "--" and again == file)
+    return Request(out, file, int(line), int(column), target) if right else None
+
+
+def is_part(word):
+    """One part of a file name."""
+    return re.fullmatch(r"[A-Za-z0-9_$.-]+", word) is not None and word not in (".", "..")
+
+
+def is_number(word):
+    """A line or a column: 1 to 10 digits without a leading zero, and not zero itself."""
+    return re.fullmatch(r"[1-9][0-9]{0,9}", word) is not None
+
+
+def is_identifier(word):
+    return re.fullmatch(r"[A-Za-z_$][A-Za-z0-9_$]*", word) is not None and word not in RESERVED
+
+
+# Lines and columns.
+
+class Lines:
+    """The lines of a text. A line ends at LF, CR or CR LF; lines count from 1, and so do the bytes of a line."""
+
+    def __init__(self, text):
+        self.starts = [0] + [found.end() for found in re.finditer(rb"\r\n|\r|\n", text)]
+
+    def place(self, offset):
+        """The line and the column of the byte at an offset."""
+        line = bisect.bisect_right(self.starts, offset)
+        return line, offset - self.starts[line - 1] + 1
+
+
+# Tokens.
+
+class NotSmall(Exception):
+    """The file is no small program. The message says why, for whoever reads a difference."""
+
+
+class Token(NamedTuple):
+    """A word (an identifier or a keyword), a string literal or a mark, with the offset of its first byte."""
+    kind: str
+    text: str
+    at: int
+
+
+TOKEN = re.compile(r"""
+      (?P<white> [ \t\f\n\r]+ )
+    | (?P<word>  [A-Za-z_$][A-Za-z0-9_$]* )
+    | (?P<text>  "[^"\\\r\n]*" )
+    | (?P<mark>  [{}()\[\].;=] )
+    """, re.VERBOSE)
+
+
+def read_tokens(text):
+    """The tokens of a small program. Longer operators need no care: none of these marks is ever doubled there."""
+    if len(text) > MOST_BYTES:
+        raise NotSmall("too many bytes")
+    try:
+        text = text.decode("ascii")
+    except UnicodeDecodeError:
+        raise NotSmall("a byte that is not ASCII") from None
+    tokens = []
+    at = 0
+    while at < len(text):
+        found = TOKEN.match(text, at)
+        if found is None:
+            raise NotSmall("no token of a small program at byte %d" % at)
+        if found.lastgroup != "white":
+            tokens.append(Token(found.lastgroup, found.group(), at))
+        at = found.end()
+    return tokens
+
+
+# The small program.
+
+class Class(NamedTuple):
+    name: str
+    above: Optional[str]
+    methods: list
+
+
+class New(NamedTuple):
+    """The value `new Type()`."""
+    type: str
+
+
+class Use(NamedTuple):
+    """A local as a value."""
+    name: str
+    at: int
+
+
+class Declare(NamedTuple):
+    """`Type name = value;`"""
+    type: Token
+    name: str
+    value: Union[New, Use]
+
+
+class Assign(NamedTuple):
+    """`name = value;`"""
+    name: str
+    value: Union[New, Use]
+
+
+class Call(NamedTuple):
+    """`name.method();`"""
+    name: str
+    method: str
+    at: int
+
+
+class Program(NamedTuple):
+    classes: list
+    main: str
+    parameter: str
+    steps: list
+
+
+class Parser:
+    """Reads the tokens from left to right by the grammar, one method for each of its rules."""
+
+    def __init__(self, tokens):
+        self.tokens = tokens
+        self.next = 0
+
+    def program(self):
+        classes = []
+        while True:
+            self.take("class")
+            name = self.take_identifier().text
+            above = None
+            if self.sees("extends"):
+                self.take("extends")
+                above = self.take_identifier().text
+            self.take("{")
+            if above is None and self.sees("public"):
+                parameter, steps = self.main()
+                return Program(classes, name, parameter, steps)
+            classes.append(Class(name, above, self.methods()))
+
+    def methods(self):
+        """The names of the methods of a class, up to its closing brace."""
+        names = []
+        while not self.sees("}"):
+            self.take("void")
+            names.append(self.take_identifier().text)
+            self.take("(", ")", "{")
+            while not self.sees("}"):
+                self.take("System", ".", "out", ".", "println", "(")
+                self.take_text()
+                self.take(")", ";")
+            self.take("}")
+        self.take("}")
+        return names
+
+    def main(self):
+        """The parameter and the steps of the method main, up to the end of the file."""
+        self.take("public", "static", "void", "main", "(", "String", "[", "]")
+        parameter = self.take_identifier().text
+        self.take(")", "{")
+        steps = []
+        while not self.sees("}"):
+            steps.append(self.step())
+        self.take("}", "}")
+        if self.next < len(self.tokens):
+            raise NotSmall("tokens after the last class")
+        return parameter, steps
+
+    def step(self):
+        first = self.take_identifier()
+        if self.sees("."):
+            self.take(".")
+            method = self.take_identifier().text
+            self.take("(", ")", ";")
+            return Call(first.text, method, first.at)
+        if self.sees("="):
+            return Assign(first.text, self.value())
+        return Declare(first, self.take_identifier().text, self.value())
+
+    def value(self):
+        """A value between `=` and `;`."""
+        self.take("=")
+        if self.sees("new"):
+            self.take("new")
+            value = New(self.take_identifier().text)
+            self.take("(", ")")
+        else:
+            name = self.take_identifier()
+            value = Use(name.text, name.at)
+        self.take(";")
+        return value
+
+    def sees(self, text):
+        """Whether the next token is this word or mark."""
+        if self.next == len(self.tokens):
+            return False
+        token = self.tokens[self.next]
+        return token.kind != "text" and token.text == text
+
+    def take(self, *texts):
+        for text in texts:
+            if not self.sees(text):
+                raise NotSmall("token %d is not %s" % (self.next + 1, text))
+            self.next += 1
+
+    def take_identifier(self):
+        if self.next == len(self.tokens):
+            raise NotSmall("the file ends where an identifier has to stand")
+        token = self.tokens[self.next]
+        if token.kind != "word" or token.text in RESERVED:
+            raise NotSmall("token %d is no identifier" % (self.next + 1))
+        self.next += 1
+        return token
+
+    def take_text(self):
+        if self.next == len(self.tokens) or self.tokens[self.next].kind != "text":
+            raise NotSmall("token %d is no string" % (self.next + 1))
+        self.next += 1
+
+
+def read_program(text, whole):
+    """The small program that a file is; NotSmall where it is none."""
+    program = Parser(read_tokens(text)).program()
+    if not whole:
+        require_thin_steps(program)
+    require_sizes(program)
+    require_type_names(program)
+    require_method_names(program)
+    require_supertypes(program)
+    require_steps(program)
+    return program
+
+
+def require(condition, why):
+    if not condition:
+        raise NotSmall(why)
+
+
+def require_thin_steps(program):
+    """The thin run knows `Type name = new Type();` and `name.method();` alone."""
+    for step in program.steps:
+        require(not isinstance(step, Assign), "an assignment, which is not yet built")
+        require(isinstance(step, Call) or isinstance(step.value, New), "a local as a value, which is not yet built")
+
+
+def require_sizes(program):
+    require(len(program.classes) + 1 <= MOST_TYPES, "too many types")
+    methods = sum(len(each.methods) for each in program.classes)
+    require(methods + 1 <= MOST_METHODS, "too many methods")
+
+
+def require_type_names(program):
+    """Each type has a name of its own, which no built-in type has and with which no package begins."""
+    names = set()
+    for name in [each.name for each in program.classes] + [program.main]:
+        require(name != PACKAGES_BEGIN_WITH, "a type is named as a package begins")
+        require(name not in BUILT_IN_TYPES, "a type is named as a built-in type")
+        require(name not in names, "two types of one name")
+        names.add(name)
+
+
+def require_method_names(program):
+    for each in program.classes:
+        require(len(set(each.methods)) == len(each.methods), "two methods of one signature")
+        for method in each.methods:
+            require(method != "main", "a class declares main")
+            require(method not in LEFT_OUT_METHODS, "a method name that is left out")
+            require(method not in OBJECT_METHODS, "a void method overrides a method of Object")
+
+
+def require_supertypes(program):
+    """What a class extends is a class of the file, and no class is above itself."""
+    above = {each.name: each.above for each in program.classes}
+    fine = {None}
+    for each in program.classes:
+        seen = set()
+        name = each.name
+        while name not in fine:
+            require(name in above, "a superclass that is no class of the file")
+            require(name not in seen, "a class above itself")
+            seen.add(name)
+            name = above[name]
+        fine |= seen
+
+
+def require_steps(program):
+    """The names and types of the steps, read from the first to the last."""
+    types = Types(program)
+    locals_so_far = {}
+    for step in program.steps:
+        if isinstance(step, Call):
+            require(step.name in locals_so_far, "a call on what is no local of an earlier step")
+            require(types.has_method(locals_so_far[step.name], step.method), "the type has no such method")
+            continue
+        value_type = type_of(step.value, types, locals_so_far)
+        if isinstance(step, Declare):
+            require(types.knows(step.type.text), "a local's type is no class of the file")
+            require(types.is_sub(value_type, step.type.text), "an initialiser that does not fit")
+            require(step.name not in locals_so_far and step.name != program.parameter, "a local's name is taken")
+            locals_so_far[step.name] = step.type.text
+        else:
+            require(step.name in locals_so_far, "an assignment to what is no local of an earlier step")
+            require(types.is_sub(value_type, locals_so_far[step.name]), "an assigned value that does not fit")
+
+
+def type_of(value, types, locals_so_far):
+    if isinstance(value, New):
+        require(types.knows(value.type), "a created type is no class of the file")
+        return value.type
+    require(value.name in locals_so_far, "a value is no local of an earlier step")
+    return locals_so_far[value.name]
+
+
+def require_target(program, target):
+    require(Types(program).knows(target), "TYPE is no class of the file")
+
+
+class Types:
+    """The classes of a program and Object."""
+
+    def __init__(self, program):
+        self.classes = {each.name: each for each in program.classes}
+
+    def knows(self, name):
+        return name == "Object" or name in self.classes
+
+    def upwards(self, name):
+        """The type itself, then what it extends, and so on up to Object."""
+        while name != "Object":
+            yield name
+            name = self.classes[name].above or "Object"
+        yield "Object"
+
+    def is_sub(self, below, above):
+        return above in self.upwards(below)
+
+    def has_method(self, name, method):
+        """Whether a call without arguments finds the method. No such method of Object can be called here."""
+        return any(each != "Object" and method in self.classes[each].methods for each in self.upwards(name))
+
+
+# The refusals of the command.
+
+def first_refusal(program, text, request):
+    """The rule or the constraint that refuses, with the offset of its node (None where it has none), or None."""
+    place = declared_at(program, text, request)
+    if place is None:
+        return "V1", None
+    types = Types(program)
+    if request.target == place.type.text or not types.is_sub(place.type.text, request.target):
+        return "V3", place.type.at
+    return first_unmet(program, types, place, request.target)
+
+
+def declared_at(program, text, request):
+    """The step whose declared type begins at the line and the column, or None."""
+    lines = Lines(text)
+    for step in program.steps:
+        if isinstance(step, Declare) and lines.place(step.type.at) == (request.line, request.column):
+            return step
+    return None
+
+
+def first_unmet(program, types, place, target):
+    """The first use of the local, in the order of the text, that the new type does not allow."""
+    declared = {step.name: step.type.text for step in program.steps if isinstance(step, Declare)}
+    for step in program.steps:
+        if isinstance(step, Call):
+            if step.name == place.name and not types.has_method(target, step.method):
+                return "MEMBER", step.at
+        elif isinstance(step.value, Use) and step.value.name == place.name and step.name != place.name:
+            if not types.is_sub(target, declared[step.name]):
+                return "ASSIGN", step.value.at
+    return None
