@@ -3,9 +3,9 @@ use Rattle.std.proofs.Common.{◌≡◌, ℕ, zero, suc, ◌+◌, ◌<◌, ◌�
 use Rattle.std.proofs.lemmas.Option.{option_and_then_some, same_Some}
 use Rattle.java_tree.specs.Plain as t
 use Rattle.java_tree.specs.Plain.{TypeExpr, Member, TypeDecl, SourceUnit}
-use Rattle.java_lexer.specs.declared.token.Tok.{Tok}
-use Rattle.java_parse_decl.specs.Nodes.{member_nodes, decl_nodes}
-use Rattle.java_parse_decl.specs.Grammar.{AreMethods, AreTypes, IsClass, Spells}
+use Rattle.small_lexer.specs.declared.token.Tok.{Tok}
+use Rattle.small_parser.specs.Nodes.{member_nodes, decl_nodes}
+use Rattle.small_parser.specs.Grammar.{AreMethods, AreTypes, IsClass, Spells}
 use Rattle.class_world.specs.declared.world.MethodInfo.{MethodInfo}
 use Rattle.java_typing.specs.Main.{before_last}
 use Rattle.java_typing.specs.WorldOf.{place_of, simple_name, class_named, method_info, methods_of, default_constructor, object_constructor, world_of}

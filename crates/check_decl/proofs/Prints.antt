@@ -3,9 +3,9 @@ use Rattle.std.proofs.Common.{◌≡◌, ℕ, ◌+◌, ◌≤◌, ◌==◌, if�
 use Rattle.std.proofs.lemmas.Bool.Decides.{nat_tests}
 use Rattle.java_tree.specs.Plain as t
 use Rattle.java_tree.specs.Plain.{Stmt, Stmts, Member, TypeDecl, SourceUnit}
-use Rattle.java_lexer.specs.declared.token.Tok.{Tok}
-use Rattle.java_parse_decl.specs.Nodes.{stmt_nodes, stmts_nodes, member_nodes, members_nodes, decl_nodes}
-use Rattle.java_parse_decl.specs.Grammar.{IsPrint, ArePrints, AreMethods, IsClass, IsMain, AreTypes, Spells}
+use Rattle.small_lexer.specs.declared.token.Tok.{Tok}
+use Rattle.small_parser.specs.Nodes.{stmt_nodes, stmts_nodes, member_nodes, members_nodes, decl_nodes}
+use Rattle.small_parser.specs.Grammar.{IsPrint, ArePrints, AreMethods, IsClass, IsMain, AreTypes, Spells}
 use Rattle.class_world.specs.declared.world.World.{World}
 use Rattle.class_world.specs.declared.world.JavaType.{JavaType}
 use Rattle.class_world.specs.declared.world.JavaType.TheVariants as ty

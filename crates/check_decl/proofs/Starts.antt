@@ -2,8 +2,8 @@
 use Rattle.std.proofs.Common.{◌≡◌, ℕ, ◌+◌, List, [], ◌∷◌, length, Some, None, slice_get, unwrap_or, false, refl, ap, sym, ◌∙◌, subst}
 use Rattle.std.proofs.lemmas.Option.{same_Some, none-some}
 use Rattle.java_tree.specs.Plain.{Param, TypeDecl, SourceUnit}
-use Rattle.java_lexer.specs.declared.token.Tok.{Tok}
-use Rattle.java_parse_decl.specs.Grammar.{Spells, node_of, name_at, type_at}
+use Rattle.small_lexer.specs.declared.token.Tok.{Tok}
+use Rattle.small_parser.specs.Grammar.{Spells, node_of, name_at, type_at}
 use Rattle.class_world.specs.declared.world.World.{World}
 use Rattle.class_world.specs.declared.world.JavaType.{JavaType}
 use Rattle.class_world.specs.declared.world.JavaType.TheVariants as ty

@@ -4,8 +4,8 @@ use Rattle.std.proofs.lemmas.Option.{same_Some}
 use Rattle.java_tree.specs.declared.tree.Name.{Name}
 use Rattle.java_tree.specs.Plain as t
 use Rattle.java_tree.specs.Plain.{TypeExpr, Expr, Stmt, Stmts, TypeDecl, SourceUnit}
-use Rattle.java_lexer.specs.declared.token.Tok.{Tok}
-use Rattle.java_parse_decl.specs.Grammar.{AreTypes, IsMain, AreSteps, Spells, local_at, call_at, name_at, type_at, node_of}
+use Rattle.small_lexer.specs.declared.token.Tok.{Tok}
+use Rattle.small_parser.specs.Grammar.{AreTypes, IsMain, AreSteps, Spells, local_at, call_at, name_at, type_at, node_of}
 use Rattle.class_world.specs.declared.world.World.{World}
 use Rattle.class_world.specs.declared.world.JavaType.{JavaType}
 use Rattle.class_world.specs.declared.world.JavaType.TheVariants as ty

@@ -3,9 +3,9 @@ use Rattle.std.proofs.Common.{◌≡◌, ℕ, ◌+◌, inl, inr, List, [], Some,
 use Rattle.std.proofs.lemmas.Option.{same_Some}
 use Rattle.java_tree.specs.Plain as t
 use Rattle.java_tree.specs.Plain.{Expr, Stmt, Stmts, SourceUnit}
-use Rattle.java_lexer.specs.declared.token.Tok.{Tok}
-use Rattle.java_parse_decl.specs.Nodes.{stmt_nodes}
-use Rattle.java_parse_decl.specs.Grammar.{AreSteps, IsStep, Spells, local_at, call_at, name_at, type_at, node_of}
+use Rattle.small_lexer.specs.declared.token.Tok.{Tok}
+use Rattle.small_parser.specs.Nodes.{stmt_nodes}
+use Rattle.small_parser.specs.Grammar.{AreSteps, IsStep, Spells, local_at, call_at, name_at, type_at, node_of}
 use Rattle.class_world.specs.declared.world.JavaType.TheVariants as ty
 use Rattle.class_world.specs.Subtypes.{IsClassTree}
 use Rattle.class_world.specs.Members.{AreApart, IsChosen}

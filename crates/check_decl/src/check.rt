@@ -4,8 +4,8 @@ ghost use Rattle.std.specs.Prelude.{◌≡◌, ℕ, Bool, List, [], ◌∷◌, I
 ghost use Rattle.java_tree.specs.Plain as t;
 ghost use Rattle.java_tree.specs.declared.tree.Node as nodes;
 ghost use Rattle.java_tree.specs.View.{plain, type_plain, var_plain, stmt_plain, stmts_plain, unit_plain};
-ghost use Rattle.java_lexer.specs.declared.token.Tok as toks;
-ghost use Rattle.java_parse_decl.specs.Grammar.{Spells};
+ghost use Rattle.small_lexer.specs.declared.token.Tok as toks;
+ghost use Rattle.small_parser.specs.Grammar.{Spells};
 ghost use Rattle.class_world.specs.declared.world.JavaType as types;
 ghost use Rattle.class_world.specs.declared.world.JavaType.TheVariants as ty;
 ghost use Rattle.class_world.specs.declared.world.World as worlds;

@@ -2,8 +2,8 @@
 
 ghost use Rattle.std.specs.Prelude.{List, ℕ};
 ghost use Rattle.java_tree.specs.Plain as t;
-ghost use Rattle.java_lexer.specs.declared.token.Tok as toks;
-ghost use Rattle.java_parse_decl.specs.Grammar.{Spells};
+ghost use Rattle.small_lexer.specs.declared.token.Tok as toks;
+ghost use Rattle.small_parser.specs.Grammar.{Spells};
 ghost use Rattle.class_world.specs.declared.world.World as worlds;
 ghost use Rattle.class_world.specs.Subtypes.{IsClassTree};
 ghost use Rattle.class_world.specs.Members.{AreApart};

@@ -7,13 +7,13 @@ use Rattle.java_tree.specs.declared.tree.Span.{Span}
 use Rattle.java_tree.specs.declared.tree.Head.TheVariants as head
 use Rattle.java_tree.specs.Plain as t
 use Rattle.java_tree.specs.Plain.{Stmt, Stmts, Member, TypeDecl, SourceUnit}
-use Rattle.java_lexer.specs.declared.token.Tok.{Tok}
-use Rattle.java_lexer.specs.declared.token.Sort.TheVariants as sort
-use Rattle.java_lexer.specs.Reads.{sort_at, text_at, span_of}
-use Rattle.java_lexer.proofs.Places.{here}
-use Rattle.java_lexer.proofs.TokenLemmas.{within, in_order}
-use Rattle.java_lexer.proofs.WordLemmas.{word_bytes}
-use Rattle.java_parse_decl.specs.Grammar.{node_of, local_at, call_at, name_at, type_at, IsStep, AreTypes}
+use Rattle.small_lexer.specs.declared.token.Tok.{Tok}
+use Rattle.small_lexer.specs.declared.token.Sort.TheVariants as sort
+use Rattle.small_lexer.specs.Reads.{sort_at, text_at, span_of}
+use Rattle.small_lexer.proofs.Places.{here}
+use Rattle.small_lexer.proofs.TokenLemmas.{within, in_order}
+use Rattle.small_lexer.proofs.WordLemmas.{word_bytes}
+use Rattle.small_parser.specs.Grammar.{node_of, local_at, call_at, name_at, type_at, IsStep, AreTypes}
 use Rattle.class_world.specs.declared.world.World.{World}
 use Rattle.class_world.specs.declared.world.TypeInfo.{TypeInfo}
 use Rattle.class_world.specs.declared.world.JavaType.{JavaType}

@@ -2,9 +2,9 @@
 use Rattle.std.specs.Prelude.{◌≡◌, ℕ, List}
 use Rattle.java_tree.specs.Names.{IsTable}
 use Rattle.java_tree.specs.Plain.{SourceUnit}
-use Rattle.java_lexer.specs.declared.token.Tok.{Tok}
-use Rattle.java_lexer.specs.Lexing.{Lexes}
-use Rattle.java_parse_decl.specs.Grammar.{Spells}
+use Rattle.small_lexer.specs.declared.token.Tok.{Tok}
+use Rattle.small_lexer.specs.Lexing.{Lexes}
+use Rattle.small_parser.specs.Grammar.{Spells}
 use Rattle.class_world.specs.declared.world.World.{World}
 use Rattle.class_world.specs.Subtypes.{IsClassTree}
 use Rattle.class_world.specs.Names.{ListsMethods}

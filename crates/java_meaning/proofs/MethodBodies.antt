@@ -9,15 +9,15 @@ use Rattle.java_tree.specs.declared.tree.Node.{Node}
 use Rattle.java_tree.specs.declared.tree.Name.{Name}
 use Rattle.java_tree.specs.Plain as t
 use Rattle.java_tree.specs.Plain.{Expr, Param, Stmt, Stmts, Member, TypeDecl, SourceUnit}
-use Rattle.java_lexer.specs.declared.token.Tok.{Tok}
-use Rattle.java_lexer.specs.declared.token.Sort.TheVariants as s
-use Rattle.java_lexer.specs.Reads.{sort_in, text_in, sort_at, text_at}
-use Rattle.java_lexer.specs.Pieces.{is_in_text, AllAre}
-use Rattle.java_lexer.specs.Lexing.{Lexes}
-use Rattle.java_lexer.proofs.WordLemmas.{text_bytes}
-use Rattle.java_parse_decl.specs.Nodes.{member_nodes, decl_nodes}
-use Rattle.java_parse_decl.specs.Grammar.{IsCalled, IsPrint, ArePrints, IsMethod, AreMethods, AreTypes, IsClass, Spells}
-use Rattle.java_parse_decl.specs.Grammar as grammar
+use Rattle.small_lexer.specs.declared.token.Tok.{Tok}
+use Rattle.small_lexer.specs.declared.token.Sort.TheVariants as s
+use Rattle.small_lexer.specs.Reads.{sort_in, text_in, sort_at, text_at}
+use Rattle.small_lexer.specs.Pieces.{is_in_text, AllAre}
+use Rattle.small_lexer.specs.Lexing.{Lexes}
+use Rattle.small_lexer.proofs.WordLemmas.{text_bytes}
+use Rattle.small_parser.specs.Nodes.{member_nodes, decl_nodes}
+use Rattle.small_parser.specs.Grammar.{IsCalled, IsPrint, ArePrints, IsMethod, AreMethods, AreTypes, IsClass, Spells}
+use Rattle.small_parser.specs.Grammar as grammar
 use Rattle.class_world.specs.declared.world.MethodInfo.{MethodInfo}
 use Rattle.class_world.specs.declared.world.JavaType.{JavaType}
 use Rattle.class_world.specs.declared.world.JavaType.TheVariants as ty

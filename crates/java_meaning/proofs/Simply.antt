@@ -4,10 +4,10 @@ use Rattle.std.specs.Prelude.{unwrap_or}
 use Rattle.java_tree.specs.declared.tree.Name.{Name}
 use Rattle.java_tree.specs.Plain as t
 use Rattle.java_tree.specs.Plain.{TypeExpr, Expr, Param, Stmt, Stmts, SourceUnit}
-use Rattle.java_lexer.specs.declared.token.Tok.{Tok}
-use Rattle.java_lexer.specs.Lexing.{Lexes}
-use Rattle.java_parse_decl.specs.Nodes.{stmt_nodes}
-use Rattle.java_parse_decl.specs.Grammar.{AreSteps, IsStep, Spells, local_at, call_at, name_at, type_at, node_of}
+use Rattle.small_lexer.specs.declared.token.Tok.{Tok}
+use Rattle.small_lexer.specs.Lexing.{Lexes}
+use Rattle.small_parser.specs.Nodes.{stmt_nodes}
+use Rattle.small_parser.specs.Grammar.{AreSteps, IsStep, Spells, local_at, call_at, name_at, type_at, node_of}
 use Rattle.class_world.specs.declared.world.World.{World}
 use Rattle.class_world.specs.declared.world.MethodInfo.{MethodInfo}
 use Rattle.class_world.specs.declared.world.JavaType.TheVariants as ty

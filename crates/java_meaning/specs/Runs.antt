@@ -6,9 +6,9 @@ use Rattle.java_tree.specs.declared.tree.Name.{Name}
 use Rattle.java_tree.specs.Plain as t
 use Rattle.java_tree.specs.Plain.{Stmts, Member, SourceUnit}
 use Rattle.java_tree.specs.View.{stmts_plain}
-use Rattle.java_lexer.specs.declared.token.Tok.{Tok}
-use Rattle.java_lexer.specs.Lexing.{Lexes}
-use Rattle.java_parse_decl.specs.Grammar.{Spells}
+use Rattle.small_lexer.specs.declared.token.Tok.{Tok}
+use Rattle.small_lexer.specs.Lexing.{Lexes}
+use Rattle.small_parser.specs.Grammar.{Spells}
 use Rattle.java_typing.specs.Typing.{StepsHold}
 use Rattle.decl_table.specs.declared.build.Declared.{Declared}
 use Rattle.decl_table.specs.Built.{IsBuilt}

@@ -4,8 +4,8 @@
 use crate::{End, Run, run_small};
 use check_decl::check_small;
 use decl_table::build_small;
-use java_lexer::lex;
-use java_parse_decl::parse_small;
+use small_lexer::lex;
+use small_parser::parse_small;
 use java_tree::Names;
 use std::alloc::Global;
 use std::process::Abort;

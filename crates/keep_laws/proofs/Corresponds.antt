@@ -6,11 +6,11 @@ use Rattle.java_tree.specs.declared.tree.Name.{Name}
 use Rattle.java_tree.specs.declared.tree.Node.{Node}
 use Rattle.java_tree.specs.Plain as t
 use Rattle.java_tree.specs.Plain.{Expr, Param, Stmt, Stmts, Member, TypeDecl, SourceUnit}
-use Rattle.java_lexer.specs.declared.token.Tok.{Tok}
-use Rattle.java_lexer.specs.Reads.{from_at}
-use Rattle.java_lexer.specs.Replaced.{Change}
-use Rattle.java_parse_decl.specs.Nodes.{stmt_nodes}
-use Rattle.java_parse_decl.specs.Grammar.{node_of, name_at, local_at, IsStep, AreSteps, Spells}
+use Rattle.small_lexer.specs.declared.token.Tok.{Tok}
+use Rattle.small_lexer.specs.Reads.{from_at}
+use Rattle.small_lexer.specs.Replaced.{Change}
+use Rattle.small_parser.specs.Nodes.{stmt_nodes}
+use Rattle.small_parser.specs.Grammar.{node_of, name_at, local_at, IsStep, AreSteps, Spells}
 use Rattle.class_world.specs.declared.world.World.{World}
 use Rattle.class_world.specs.declared.world.JavaType.{JavaType}
 use Rattle.class_world.specs.Subtypes.{IsBelow, IsClassTree, direct, through}

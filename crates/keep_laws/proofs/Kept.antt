@@ -2,10 +2,10 @@
 use Rattle.std.proofs.Common.{◌≡◌, ℕ, ◌+◌, List, [], ◌∷◌, Some, inl, refl, sym, ap, subst, ◌∙◌}
 use Rattle.std.specs.Prelude.{option_and_then}
 use Rattle.java_tree.specs.Plain.{Stmt, Stmts, TypeDecl, SourceUnit}
-use Rattle.java_lexer.specs.declared.token.Tok.{Tok}
-use Rattle.java_lexer.specs.Replaced.{Change}
-use Rattle.java_parse_decl.specs.Grammar as g
-use Rattle.java_parse_decl.specs.Grammar.{Spells}
+use Rattle.small_lexer.specs.declared.token.Tok.{Tok}
+use Rattle.small_lexer.specs.Replaced.{Change}
+use Rattle.small_parser.specs.Grammar as g
+use Rattle.small_parser.specs.Grammar.{Spells}
 use Rattle.class_world.specs.declared.world.World.{World}
 use Rattle.class_world.specs.declared.world.JavaType.{JavaType}
 use Rattle.class_world.specs.Subtypes.{IsBelow}

@@ -3,10 +3,10 @@ use Rattle.std.proofs.Common.{◌≡◌, ℕ, ◌+◌, ◌*◌, ◌==◌, true, 
 use Rattle.java_tree.specs.declared.tree.Head.TheVariants as head
 use Rattle.java_tree.specs.Plain as t
 use Rattle.java_tree.specs.Plain.{TypeExpr, Param, TypeDecl, SourceUnit}
-use Rattle.java_lexer.specs.declared.token.Tok.{Tok}
-use Rattle.java_lexer.specs.Reads.{text_at, from_at, span_of}
-use Rattle.java_lexer.specs.Replaced.{Change, moved_span}
-use Rattle.java_parse_decl.specs.Grammar.{type_at, node_of, name_at}
+use Rattle.small_lexer.specs.declared.token.Tok.{Tok}
+use Rattle.small_lexer.specs.Reads.{text_at, from_at, span_of}
+use Rattle.small_lexer.specs.Replaced.{Change, moved_span}
+use Rattle.small_parser.specs.Grammar.{type_at, node_of, name_at}
 use Rattle.java_typing.specs.Main.{before_last}
 use Rattle.java_typing.specs.WorldOf.{place_of, class_named, param_type}
 use Rattle.java_typing.specs.Typing.{step_type}

@@ -4,8 +4,8 @@ use Rattle.std.specs.Option.{option_map}
 use Rattle.std.proofs.lemmas.List.{length-map}
 use Rattle.std.proofs.lemmas.Option.{slice_get-map}
 use Rattle.java_tree.specs.Plain.{TypeDecl, SourceUnit}
-use Rattle.java_lexer.specs.declared.token.Tok.{Tok}
-use Rattle.java_lexer.specs.Replaced.{Change}
+use Rattle.small_lexer.specs.declared.token.Tok.{Tok}
+use Rattle.small_lexer.specs.Replaced.{Change}
 use Rattle.class_world.specs.declared.world.World.{World}
 use Rattle.java_typing.specs.WorldOf.{superclass_of}
 use Rattle.java_typing.specs.Declarations.{written_methods, AreFew, NoneIsJava, SupersAreThere, DeclarationsHold}

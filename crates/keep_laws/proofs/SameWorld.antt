@@ -2,11 +2,11 @@
 use Rattle.std.proofs.Common.{◌≡◌, ℕ, ◌+◌, ◌==◌, false, List, [], ◌∷◌, length, map, inl, inr, refl, sym, ap, subst, arith}
 use Rattle.std.proofs.lemmas.List.{length-map}
 use Rattle.java_tree.specs.Plain.{Param, Member, TypeDecl, SourceUnit}
-use Rattle.java_lexer.specs.declared.token.Tok.{Tok}
-use Rattle.java_lexer.specs.Reads.{from_at}
-use Rattle.java_lexer.specs.Replaced.{Change}
-use Rattle.java_parse_decl.specs.Nodes.{member_nodes, decl_nodes}
-use Rattle.java_parse_decl.specs.Grammar.{node_of, name_at, type_at, AreMethods, IsPlainClass, IsClassBelow, IsMain, AreTypes, Spells}
+use Rattle.small_lexer.specs.declared.token.Tok.{Tok}
+use Rattle.small_lexer.specs.Reads.{from_at}
+use Rattle.small_lexer.specs.Replaced.{Change}
+use Rattle.small_parser.specs.Nodes.{member_nodes, decl_nodes}
+use Rattle.small_parser.specs.Grammar.{node_of, name_at, type_at, AreMethods, IsPlainClass, IsClassBelow, IsMain, AreTypes, Spells}
 use Rattle.java_typing.specs.WorldOf.{superclass_of, param_type, method_info, methods_of, infos_of, world_of}
 use Rattle.constraint_terms.specs.Effect.{param, member, decl, generalized}
 use Rattle.tree_edit.proofs.Standing.{Keeps, elsewhere_at}

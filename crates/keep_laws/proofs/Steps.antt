@@ -4,11 +4,11 @@ use Rattle.std.proofs.lemmas.Bool.Decides.{nat_tests}
 use Rattle.java_tree.specs.declared.tree.Name.{Name}
 use Rattle.java_tree.specs.Plain as t
 use Rattle.java_tree.specs.Plain.{TypeExpr, Expr, Var, Stmt, Stmts, TypeDecl, SourceUnit}
-use Rattle.java_lexer.specs.declared.token.Tok.{Tok}
-use Rattle.java_lexer.specs.Reads.{from_at, span_of}
-use Rattle.java_lexer.specs.Replaced.{Change}
-use Rattle.java_parse_decl.specs.Nodes.{stmt_nodes}
-use Rattle.java_parse_decl.specs.Grammar.{node_of, name_at, type_at, local_at, call_at, IsStep, AreSteps, Spells}
+use Rattle.small_lexer.specs.declared.token.Tok.{Tok}
+use Rattle.small_lexer.specs.Reads.{from_at, span_of}
+use Rattle.small_lexer.specs.Replaced.{Change}
+use Rattle.small_parser.specs.Nodes.{stmt_nodes}
+use Rattle.small_parser.specs.Grammar.{node_of, name_at, type_at, local_at, call_at, IsStep, AreSteps, Spells}
 use Rattle.class_world.specs.declared.world.World.{World}
 use Rattle.class_world.specs.declared.world.JavaType.{JavaType}
 use Rattle.class_world.specs.declared.world.JavaType.TheVariants as ty

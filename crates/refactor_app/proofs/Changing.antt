@@ -6,12 +6,12 @@ use Rattle.java_tree.specs.declared.tree.Span.{Span}
 use Rattle.java_tree.specs.declared.tree.Head.TheVariants as head
 use Rattle.java_tree.specs.Plain as t
 use Rattle.java_tree.specs.Plain.{SourceUnit}
-use Rattle.java_lexer.specs.declared.token.Tok.{Tok}
-use Rattle.java_lexer.specs.Pieces.{IsIdentifier}
-use Rattle.java_lexer.specs.Lexing.{Lexes}
-use Rattle.java_lexer.specs.Replaced.{Change, moved_tok, replaced}
-use Rattle.java_lexer.proofs.TokenLemmas.{in_order, within}
-use Rattle.java_lexer.proofs.ChangeLemmas.{replaced_lexes}
+use Rattle.small_lexer.specs.declared.token.Tok.{Tok}
+use Rattle.small_lexer.specs.Pieces.{IsIdentifier}
+use Rattle.small_lexer.specs.Lexing.{Lexes}
+use Rattle.small_lexer.specs.Replaced.{Change, moved_tok, replaced}
+use Rattle.small_lexer.proofs.TokenLemmas.{in_order, within}
+use Rattle.small_lexer.proofs.ChangeLemmas.{replaced_lexes}
 use Rattle.edit_writer.specs.declared.edits.Edit.{Edit}
 use Rattle.edit_writer.specs.Edits.{edited, AreOrdered}
 use Rattle.class_world.specs.declared.world.World.{World}

@@ -7,8 +7,8 @@ use Rattle.java_tree.specs.declared.tree.Head.TheVariants as head
 use Rattle.java_tree.specs.Names.{AreDistinct}
 use Rattle.java_tree.specs.Plain as t
 use Rattle.java_tree.specs.View.{unit_plain}
-use Rattle.java_lexer.specs.Pieces.{IsIdentifier}
-use Rattle.java_lexer.proofs.TokenLemmas.{within}
+use Rattle.small_lexer.specs.Pieces.{IsIdentifier}
+use Rattle.small_lexer.proofs.TokenLemmas.{within}
 use Rattle.edit_writer.specs.declared.places.Place.{Place}
 use Rattle.edit_writer.specs.Places.{place_at}
 use Rattle.edit_writer.proofs.Lines.{low_place}

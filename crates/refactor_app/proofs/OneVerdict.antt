@@ -7,8 +7,8 @@ use Rattle.java_tree.specs.declared.tree.Span.{Span}
 use Rattle.java_tree.specs.Names.{AreDistinct}
 use Rattle.java_tree.specs.Plain as t
 use Rattle.java_tree.specs.Plain.{Stmt}
-use Rattle.java_lexer.proofs.TokenLemmas.{within}
-use Rattle.java_parse_decl.specs.Grammar.{IsStep}
+use Rattle.small_lexer.proofs.TokenLemmas.{within}
+use Rattle.small_parser.specs.Grammar.{IsStep}
 use Rattle.edit_writer.specs.declared.edits.Edit.{Edit}
 use Rattle.edit_writer.specs.Edits.{edited}
 use Rattle.edit_writer.specs.Places.{place_at}

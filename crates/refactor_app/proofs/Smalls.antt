@@ -5,13 +5,13 @@ use Rattle.java_tree.proofs.Tables.{built_in_table, with_text_table}
 use Rattle.java_tree.specs.View.{unit_plain}
 use Rattle.java_tree.specs.declared.tree.SourceUnit.{SourceUnit}
 use Rattle.java_tree.specs.Plain as t
-use Rattle.java_lexer.specs.declared.token.Tok.{Tok}
-use Rattle.java_lexer.specs.Lexing.{Lexes, LexesFirst, with_piece, interned}
-use Rattle.java_lexer.specs.Pieces.{Piece, Blank, Word, Text, Mark, is_reserved}
-use Rattle.java_lexer.proofs.TokenLemmas.{count}
-use Rattle.java_lexer.proofs.LexLemmas.{one_first}
-use Rattle.java_parse_decl.specs.Grammar.{Spells}
-use Rattle.java_parse_decl.proofs.Complete.{one}
+use Rattle.small_lexer.specs.declared.token.Tok.{Tok}
+use Rattle.small_lexer.specs.Lexing.{Lexes, LexesFirst, with_piece, interned}
+use Rattle.small_lexer.specs.Pieces.{Piece, Blank, Word, Text, Mark, is_reserved}
+use Rattle.small_lexer.proofs.TokenLemmas.{count}
+use Rattle.small_lexer.proofs.LexLemmas.{one_first}
+use Rattle.small_parser.specs.Grammar.{Spells}
+use Rattle.small_parser.proofs.Complete.{one}
 use Rattle.java_typing.specs.WorldOf.{world_of}
 use Rattle.java_typing.specs.Declarations.{DeclarationsHold}
 use Rattle.java_typing.specs.Typing.{StepsHold}

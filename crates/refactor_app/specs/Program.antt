@@ -1,9 +1,9 @@
 -- A small program: a text with its names, tokens, tree and world, in which no rule is broken.
 use Rattle.std.specs.Prelude.{◌≡◌, ℕ, ◌≤◌, if◌then◌else◌, ◌==◌, List, Some, slice_get, length}
 use Rattle.java_tree.specs.Plain.{SourceUnit}
-use Rattle.java_lexer.specs.declared.token.Tok.{Tok}
-use Rattle.java_lexer.specs.Lexing.{Lexes, LexesFirst}
-use Rattle.java_parse_decl.specs.Grammar.{Spells}
+use Rattle.small_lexer.specs.declared.token.Tok.{Tok}
+use Rattle.small_lexer.specs.Lexing.{Lexes, LexesFirst}
+use Rattle.small_parser.specs.Grammar.{Spells}
 use Rattle.java_typing.specs.Main.{before_last}
 use Rattle.java_typing.specs.WorldOf.{world_of, place_of}
 use Rattle.java_typing.specs.Declarations.{DeclarationsHold}

@@ -2,8 +2,8 @@
 use Rattle.std.specs.Prelude.{ℕ, List, []}
 use Rattle.java_tree.specs.View.{unit_plain}
 use Rattle.java_tree.specs.declared.tree.SourceUnit.{SourceUnit}
-use Rattle.java_lexer.specs.declared.token.Tok.{Tok}
-use Rattle.java_lexer.specs.Lexing.{LexesFirst}
+use Rattle.small_lexer.specs.declared.token.Tok.{Tok}
+use Rattle.small_lexer.specs.Lexing.{LexesFirst}
 use Rattle.decl_table.specs.Built.{IsBuilt}
 use Rattle.refactor_app.specs.declared.program.Small.{Small}
 use Rattle.refactor_app.specs.Program.{Program, IsRead, IsSmall, IsTypeNamed}

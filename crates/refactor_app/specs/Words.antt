@@ -1,7 +1,7 @@
 -- The words that ask for a change.
 use Rattle.std.specs.Prelude.{◌≡◌, ℕ, ◌<◌, ◌^◌, Bool, ◌||◌, ◌==◌, List, [], ◌∷◌, ◌++◌, codes}
 use Rattle.std.specs.Fmt.{decimal}
-use Rattle.java_lexer.specs.Pieces.{AllAre, is_part, IsIdentifier}
+use Rattle.small_lexer.specs.Pieces.{AllAre, is_part, IsIdentifier}
 
 -- generalize OUT FILE LINE COL TYPE -- FILE
 pub record Request : Type 0 where

@@ -2,7 +2,7 @@
 
 ghost use Rattle.std.specs.Prelude.{◌≡◌, ◌≤◌, ◌⊎◌, ℕ, List, [], length, map, Ok, Err, IfOk, OnErr, codes};
 ghost use Rattle.std.specs.String.{string_bytes};
-ghost use Rattle.java_lexer.specs.Pieces.{IsIdentifier};
+ghost use Rattle.small_lexer.specs.Pieces.{IsIdentifier};
 ghost use Rattle.tool_files.specs.Told.{Rose, Appends, AppendsSome, WhereTold, SameBut, PutsAt};
 ghost use Rattle.report_text.specs.Report as lines;
 ghost use Rattle.refactor_app.specs.Words.{Request, Asks};

@@ -5,7 +5,7 @@ ghost use Rattle.std.specs.String.{string_bytes};
 ghost use Rattle.java_tree.specs.declared.tree.Node.{Node};
 ghost use Rattle.java_tree.specs.Names.{AreDistinct};
 ghost use Rattle.java_tree.specs.View.{unit_plain};
-ghost use Rattle.java_lexer.specs.Pieces.{IsIdentifier};
+ghost use Rattle.small_lexer.specs.Pieces.{IsIdentifier};
 ghost use Rattle.edit_writer.specs.Places as places;
 ghost use Rattle.decl_table.specs.Classes.{Numbers};
 ghost use Rattle.generalize_type.specs.Steps.{HasCall};

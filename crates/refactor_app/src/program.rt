@@ -5,8 +5,8 @@ ghost use Rattle.refactor_app.specs.Small.{IsProgramOf, IsNoProgram, HasTokens, 
 
 use check_decl::check_small;
 use decl_table::{BuildFault, Declared, build_small};
-use java_lexer::{LexFault, Tok, lex};
-use java_parse_decl::{SyntaxFault, parse_small};
+use small_lexer::{LexFault, Tok, lex};
+use small_parser::{SyntaxFault, parse_small};
 use java_tree::tree::SourceUnit;
 use java_tree::{Items, Names, NoMemory};
 use std::alloc::Global;

@@ -6,9 +6,9 @@ ghost use Rattle.refactor_app.specs.Words as spec;
 ghost use Rattle.refactor_app.specs.Words.{Request, Asks, AreFit, IsPart, IsNumber};
 ghost use Rattle.refactor_app.specs.Asked.{request_of};
 ghost use Rattle.refactor_app.specs.Numbers.{BeginsNumber};
-ghost use Rattle.java_lexer.specs.Pieces.{AllAre};
+ghost use Rattle.small_lexer.specs.Pieces.{AllAre};
 
-use java_lexer::is_identifier;
+use small_lexer::is_identifier;
 
 /// `generalize OUT FILE LINE COL TYPE -- FILE`. Lines and columns count from 1, columns in bytes.
 #[derive(Clone, Copy)]

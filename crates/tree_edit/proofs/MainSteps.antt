@@ -7,13 +7,13 @@ use Rattle.java_tree.specs.declared.tree.Head.{Head}
 use Rattle.java_tree.specs.declared.tree.Head.TheVariants as head
 use Rattle.java_tree.specs.Plain as t
 use Rattle.java_tree.specs.Plain.{TypeExprs, Var, Stmt, Stmts, TypeDecl, SourceUnit}
-use Rattle.java_lexer.specs.declared.token.Tok.{Tok}
-use Rattle.java_lexer.specs.declared.token.Sort.{Sort}
-use Rattle.java_lexer.specs.declared.token.Sort.TheVariants as s
-use Rattle.java_lexer.specs.Reads.{sort_at, from_at, span_of}
-use Rattle.java_lexer.proofs.Places.{here}
-use Rattle.java_parse_decl.specs.Nodes.{stmt_nodes}
-use Rattle.java_parse_decl.specs.Grammar.{Stand, local_at, IsStep, AreSteps, IsMain, AreTypes, Spells}
+use Rattle.small_lexer.specs.declared.token.Tok.{Tok}
+use Rattle.small_lexer.specs.declared.token.Sort.{Sort}
+use Rattle.small_lexer.specs.declared.token.Sort.TheVariants as s
+use Rattle.small_lexer.specs.Reads.{sort_at, from_at, span_of}
+use Rattle.small_lexer.proofs.Places.{here}
+use Rattle.small_parser.specs.Nodes.{stmt_nodes}
+use Rattle.small_parser.specs.Grammar.{Stand, local_at, IsStep, AreSteps, IsMain, AreTypes, Spells}
 use Rattle.java_typing.specs.Main.{last_type, first_method, body_of, main_steps, HasStmt}
 use Rattle.tree_edit.specs.Order.{InOrder}
 use Rattle.tree_edit.specs.Roots.{stmt_root}

@@ -5,14 +5,14 @@ use Rattle.java_tree.specs.declared.tree.Head.{Head}
 use Rattle.java_tree.specs.declared.tree.Head.TheVariants as head
 use Rattle.java_tree.specs.Plain as t
 use Rattle.java_tree.specs.Plain.{TypeExpr, Stmt, Stmts, Member, TypeDecl, SourceUnit}
-use Rattle.java_lexer.specs.declared.token.Tok.{Tok}
-use Rattle.java_lexer.specs.declared.token.Sort.{Sort}
-use Rattle.java_lexer.specs.declared.token.Sort.TheVariants as s
-use Rattle.java_lexer.specs.Reads.{text_at, from_at}
-use Rattle.java_lexer.specs.Replaced.{Change, moved_tok}
-use Rattle.java_lexer.proofs.Places.{text_at-moved, to_at-moved, span_of-moved}
-use Rattle.java_parse_decl.specs.Nodes.{stmt_nodes, member_nodes, decl_nodes}
-use Rattle.java_parse_decl.specs.Grammar.{Stand, IsCalled, type_at, print_at, IsPrint, ArePrints, method_at, IsMethod, AreMethods, class_at, IsPlainClass, IsClassBelow, IsClass, local_at, call_at, IsStep, AreSteps, main_method, IsMain, AreTypes, Spells}
+use Rattle.small_lexer.specs.declared.token.Tok.{Tok}
+use Rattle.small_lexer.specs.declared.token.Sort.{Sort}
+use Rattle.small_lexer.specs.declared.token.Sort.TheVariants as s
+use Rattle.small_lexer.specs.Reads.{text_at, from_at}
+use Rattle.small_lexer.specs.Replaced.{Change, moved_tok}
+use Rattle.small_lexer.proofs.Places.{text_at-moved, to_at-moved, span_of-moved}
+use Rattle.small_parser.specs.Nodes.{stmt_nodes, member_nodes, decl_nodes}
+use Rattle.small_parser.specs.Grammar.{Stand, IsCalled, type_at, print_at, IsPrint, ArePrints, method_at, IsMethod, AreMethods, class_at, IsPlainClass, IsClassBelow, IsClass, local_at, call_at, IsStep, AreSteps, main_method, IsMain, AreTypes, Spells}
 use Rattle.constraint_terms.specs.Effect.{type, stmt, stmts, member, decl, generalized}
 use Rattle.tree_edit.specs.Order.{InOrder}
 use Rattle.tree_edit.specs.Locals.{HasLocal}

@@ -2,13 +2,13 @@
 use Rattle.std.proofs.Common.{◌≡◌, ◌≢◌, ℕ, zero, suc, ◌+◌, ◌-◌, ◌<◌, ◌≤◌, ◌==◌, Bool, true, false, List, [], ◌∷◌, length, map, slice_get, Option, Some, None, refl, sym, ap, ◌∙◌, ◌⊎◌, inl, inr, arith, add-zero}
 use Rattle.std.proofs.lemmas.Option.{slice_get_past}
 use Rattle.std.proofs.lemmas.Bool.Decides.{nat_tests}
-use Rattle.java_lexer.specs.declared.token.Tok.{Tok}
-use Rattle.java_lexer.specs.declared.token.Sort.{Sort}
-use Rattle.java_lexer.specs.declared.token.Sort.TheVariants as s
-use Rattle.java_lexer.specs.Reads.{sort_in, text_in, sort_at, text_at, from_at, to_at, span_of}
-use Rattle.java_lexer.specs.Replaced.{Change, moved_tok}
-use Rattle.java_lexer.proofs.Places.{here, sort_at-moved, text_at-moved}
-use Rattle.java_parse_decl.specs.Grammar.{Stand}
+use Rattle.small_lexer.specs.declared.token.Tok.{Tok}
+use Rattle.small_lexer.specs.declared.token.Sort.{Sort}
+use Rattle.small_lexer.specs.declared.token.Sort.TheVariants as s
+use Rattle.small_lexer.specs.Reads.{sort_in, text_in, sort_at, text_at, from_at, to_at, span_of}
+use Rattle.small_lexer.specs.Replaced.{Change, moved_tok}
+use Rattle.small_lexer.proofs.Places.{here, sort_at-moved, text_at-moved}
+use Rattle.small_parser.specs.Grammar.{Stand}
 use Rattle.tree_edit.specs.Order.{InOrder}
 
 -- a token other than the end is within the list

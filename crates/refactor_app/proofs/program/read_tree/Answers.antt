@@ -1,6 +1,6 @@
 use Rattle.std.proofs.Common.{◌<◌, Err, List, length, sym, ◌∙◌, ap, subst}
-use Rattle.java_lexer.specs.declared.token.Tok.{Tok}
-use Rattle.java_lexer.specs.Lexing.{LexesFirst}
+use Rattle.small_lexer.specs.declared.token.Tok.{Tok}
+use Rattle.small_lexer.specs.Lexing.{LexesFirst}
 use Rattle.refactor_app.proofs.Smalls.{no_tree, few_tokens, first_table}
 use Rattle.refactor_app.proofs.program.read_tree.Goals as goal
 

@@ -1,5 +1,5 @@
 use Rattle.std.proofs.Common.{drop, ◌↔◌}
-use Rattle.java_lexer.specs.Pieces.{AllAre}
+use Rattle.small_lexer.specs.Pieces.{AllAre}
 use Rattle.refactor_app.specs.Words.{is_part_byte}
 use Rattle.refactor_app.proofs.words.all_part_bytes.Given as goal
 
