@@ -1,4 +1,4 @@
--- Trees without what the code needs to hold them. A form that no definition speaks of yet is `Other`; it gets a constructor of its own with the first that does.
+-- Trees without what the code needs to hold them, form by form.
 use Rattle.std.specs.Prelude.{ℕ, Bool, List, Option}
 use Rattle.java_tree.specs.declared.tree.Node.{Node}
 use Rattle.java_tree.specs.declared.tree.Span.{Span}
@@ -6,6 +6,7 @@ use Rattle.java_tree.specs.declared.tree.Name as declared
 use Rattle.java_tree.specs.declared.tree.Mod.{Mod}
 use Rattle.java_tree.specs.declared.tree.Head.{Head}
 use Rattle.java_tree.specs.declared.tree.Import.{Import}
+use Rattle.java_tree.specs.declared.tree.UnOp.{UnOp}
 use Rattle.java_tree.specs.declared.tree.BinOp.{BinOp}
 
 mutual
@@ -19,13 +20,30 @@ mutual
 
 mutual
   pub data Expr : Type 0 where
+    Number : Node → (value : ℕ) → (decimal long : Bool) → Expr
+    Char : Node → ℕ → Expr
     Text : Node → List ℕ → Expr
+    Truth : Node → Bool → Expr
+    Null : Node → Expr
+    This : Node → Expr
     Name : Node → declared.Name → Expr
     Field : Node → Expr → declared.Name → Expr
+    SuperField : Node → declared.Name → Expr
+    Index : Node → Expr → Expr → Expr
     Call : Node → MaybeExpr → declared.Name → Exprs → Expr
+    SuperMethod : Node → declared.Name → Exprs → Expr
     New : Node → TypeExpr → Exprs → Expr
+    NewArray : Node → TypeExpr → Exprs → (extra : ℕ) → Expr
+    NewFilled : Node → TypeExpr → Expr → Expr
+    Items : Node → Exprs → Expr
+    Paren : Node → Expr → Expr
+    Unary : Node → UnOp → Expr → Expr
+    Step : Node → (up before : Bool) → Expr → Expr
+    Cast : Node → TypeExpr → (close : ℕ) → Expr → Expr
+    Binary : Node → BinOp → Expr → Expr → Expr
+    InstanceOf : Node → Expr → TypeExpr → Expr
+    Cond : Node → Expr → Expr → Expr → Expr
     Assign : Node → Option BinOp → Expr → Expr → Expr
-    Other : Node → Expr
 
   pub data MaybeExpr : Type 0 where
     NoExpr : MaybeExpr
@@ -52,12 +70,44 @@ mutual
   pub data Stmt : Type 0 where
     Block : Node → Stmts → Stmt
     Local : Node → (is_final : Bool) → TypeExpr → List Var → Stmt
+    Empty : Node → Stmt
     Value : Node → Expr → Stmt
-    OtherStmt : Node → Stmt
+    If : Node → Expr → Stmt → MaybeStmt → Stmt
+    While : Node → Expr → Stmt → Stmt
+    Do : Node → Stmt → Expr → Stmt
+    For : Node → Stmts → Option Expr → Exprs → Stmt → Stmt
+    ForEach : Node → (is_final : Bool) → TypeExpr → declared.Name → Expr → Stmt → Stmt
+    Switch : Node → Expr → Groups → Stmt
+    Break : Node → Stmt
+    Continue : Node → Stmt
+    Return : Node → Option Expr → Stmt
+    Throw : Node → Expr → Stmt
+    Try : Node → Stmt → Catches → MaybeStmt → Stmt
+    ThisCall : Node → Exprs → Stmt
+    SuperCall : Node → Exprs → Stmt
+
+  pub data MaybeStmt : Type 0 where
+    NoStmt : MaybeStmt
+    AStmt : Stmt → MaybeStmt
 
   pub data Stmts : Type 0 where
     Last : Stmts
     Then : Stmt → Stmts → Stmts
+
+  -- labels, of which `None` is `default`, with their statements
+  pub data Group : Type 0 where
+    Labelled : Node → List (Option Expr) → Stmts → Group
+
+  pub data Groups : Type 0 where
+    NoGroup : Groups
+    AndGroup : Group → Groups → Groups
+
+  pub data Catch : Type 0 where
+    Caught : Node → Param → Stmt → Catch
+
+  pub data Catches : Type 0 where
+    NoCatch : Catches
+    AndCatch : Catch → Catches → Catches
 
 pub record FieldDecl : Type 0 where
   pub node : Node
