@@ -6,11 +6,12 @@ use Rattle.java_typing.specs.Main.{statements}
 use Rattle.java_typing.specs.Typing.{Annotation}
 
 module _ (a b : Annotation) where
-  -- Each name and creation has one type and one use. A call has no value here, so it has a use alone.
+  -- Each name and creation has one type and one use. A call has no value here, so it has a use alone; an assignment has a type.
   abbrev pub AgreeOn : Expr → Type 0
   AgreeOn (t.Name n x) = (a.type_at n.id ≡ b.type_at n.id) × (a.use_at n.id ≡ b.use_at n.id)
   AgreeOn (t.New n x xs) = (a.type_at n.id ≡ b.type_at n.id) × (a.use_at n.id ≡ b.use_at n.id)
   AgreeOn (t.Call n (t.AnExpr e) m xs) = (a.use_at n.id ≡ b.use_at n.id) × AgreeOn e
+  AgreeOn (t.Assign n op to from) = (a.type_at n.id ≡ b.type_at n.id) × AgreeOn to × AgreeOn from
   AgreeOn _ = Unit {0}
 
   abbrev pub AgreeIn : Stmt → Type 0

@@ -10,7 +10,7 @@ use Rattle.class_world.specs.declared.world.TypeInfo.{TypeInfo}
 use Rattle.class_world.specs.Subtypes.{IsBelow}
 use Rattle.class_world.specs.Members.{IsChosen}
 use Rattle.java_typing.specs.Main.{main_steps, HasStmt}
-use Rattle.constraint_terms.specs.Question.{Local, Declares, BeginsAt, IsUnmet, IsFirstUnmet}
+use Rattle.constraint_terms.specs.Question.{Local, Declares, BeginsAt, CKind, IsUnmet, IsFirstUnmet, AreMet}
 use Rattle.generalize_type.specs.declared.small.SmallEdit.{SmallEdit}
 
 module _ (names : List (List ℕ)) (text : List ℕ) (u : SourceUnit) (w : World) (at : Place) (target : ℕ) where
@@ -29,24 +29,22 @@ module _ (names : List (List ℕ)) (text : List ℕ) (u : SourceUnit) (w : World
     pub named : IsNamed x
     pub no_super : IsBelow w x.ty target → ⊥
 
-  -- MEMBER: the number is that of the first call that the new type does not answer
-  pub record IsRefusedAt (number : ℕ) : Type 0 where
+  -- The number is that of the node of the first constraint that the new type does not meet, which is of this kind.
+  pub record IsRefusedAt (kind : CKind) (number : ℕ) : Type 0 where
     pub x : Local
     pub named : IsNamed x
     pub below : IsBelow w x.ty target
-    pub call : Node
-    pub first : IsFirstUnmet u w x target call
-    pub number_is : number ≡ call.id
+    pub node : Node
+    pub first : IsFirstUnmet u w x target kind node
+    pub number_is : number ≡ node.id
 
   -- the edit puts the new type's simple name in the place of the head
   pub record IsPlan (e : SmallEdit) : Type 0 where
     pub x : Local
     pub named : IsNamed x
     pub below : IsBelow w x.ty target
-    pub met : (call : Node) → IsUnmet u w x target call → ⊥
-    -- each call on the local chooses a method of the new type
-    pub answered : (stmt call receiver : Node) (method : Name)
-        → HasStmt (main_steps u) (t.Value stmt (t.Call call (t.AnExpr (t.Name receiver x.name)) method t.End)) → (k : ℕ) × IsChosen w target method k
+    pub met : (kind : CKind) (node : Node) → IsUnmet u w x target kind node → ⊥
+    pub all_met : AreMet u w x target
     pub from : e.from ≡ x.head.from
     pub to : e.to ≡ x.head.to
     pub info : TypeInfo

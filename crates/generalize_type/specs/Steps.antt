@@ -9,7 +9,7 @@ use Rattle.java_tree.specs.Plain as t
 use Rattle.java_tree.specs.Plain.{Stmt, Exprs, SourceUnit}
 use Rattle.java_tree.specs.View.{stmt_plain}
 use Rattle.java_typing.specs.Main.{main_steps, HasStmt}
-use Rattle.constraint_terms.specs.Question.{Local}
+use Rattle.constraint_terms.specs.Question.{Local, FlowsTo}
 use Rattle.generalize_type.specs.declared.small.MainLocal.{MainLocal}
 use Rattle.generalize_type.specs.declared.steps.WrittenLocal.{WrittenLocal}
 use Rattle.generalize_type.specs.declared.steps.WrittenCall.{WrittenCall}
@@ -43,6 +43,14 @@ pub record HasCall (u : SourceUnit) (call : Node) : Type 0 where
   pub method : Name
   pub args : Exprs
   pub stands : HasStmt (main_steps u) (t.Value stmt (t.Call call (t.AnExpr (t.Name receiver on)) method args))
+
+-- in main this name, as a value, flows to a variable
+abbrev pub HasFlow : SourceUnit → Node → Type 0
+HasFlow u value = (to x : Name) × FlowsTo u to (t.Name value x)
+
+-- a node at which a constraint may be unmet: a call on a name, or a name that flows to a variable
+abbrev pub IsConstrained : SourceUnit → Node → Type 0
+IsConstrained u n = HasCall u n ⊎ HasFlow u n
 
 -- a local of main, as the question on it has it
 abbrev pub local_is : MainLocal → Local

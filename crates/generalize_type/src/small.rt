@@ -90,9 +90,10 @@ pub fn generalize_small(
     ensures v { (k : ℕ) → result ≡ Err (SmallAgainst.V k)
         → ((k ≡ 1) × HasNoPlace names.now text.now (unit_plain unit.now) w.now (record { line = line; col = col }) target)
         ⊎ ((k ≡ 3) × IsNotAbove names.now text.now (unit_plain unit.now) w.now (record { line = line; col = col }) target) }
+    ensures assign { (n : ℕ) → result ≡ Err (SmallAgainst.Assign n)
+        → IsRefusedAt names.now text.now (unit_plain unit.now) w.now (record { line = line; col = col }) target kind.Assign n }
     ensures member { (n : ℕ) → result ≡ Err (SmallAgainst.Member n)
-        → IsRefusedAt names.now text.now (unit_plain unit.now) w.now (record { line = line; col = col }) target n }
-    ensures no_assign { (n : ℕ) → result ≡ Err (SmallAgainst.Assign n) → ⊥ }
+        → IsRefusedAt names.now text.now (unit_plain unit.now) w.now (record { line = line; col = col }) target kind.Member n }
 {
     let Some(local) = local_begins(text, unit, w, Place { line, col }) else {
         return Err(NO_PLACE);

@@ -58,6 +58,11 @@ abbrev pub variable : Use → State → Outcome Value
 variable (use_of.Local n) s = with_some (held n s.frame) s (λ a. Gives a s)
 variable _ s = misfit s
 
+-- A variable takes a value, which is the value of the assignment (JLS 15.26.1).
+abbrev pub stored : Use → Value → State → Outcome Value
+stored (use_of.Local n) a s = Gives a (record s { frame = record { node = n; value = a } ∷ s.frame })
+stored _ a s = misfit s
+
 -- A new object of the constructor's class, numbered in order of allocation, before the arguments are evaluated.
 abbrev pub allocated : Place → Use → State → (ℕ → Value → State → Outcome Value) → Outcome Value
 allocated p (use_of.Method k) s go = with_some (slice_get p.program.world.methods k) s (λ info. go k (v.Ref (length s.heap)) (record s { heap = s.heap ++ (state.Object info.owner [] ∷ []) }))
@@ -70,9 +75,8 @@ abbrev mutual
   value p (t.Field n e f) s = with_some (p.program.notes.type_at n.id) s (λ c. system_out c s)
   value p (t.New n c xs) s = with_some (p.program.notes.use_at n.id) s (λ u.
       allocated p u s (λ k r s. and_then (values p xs s) (λ ys s. and_then (p.call k r ys s) (λ done s. Gives r s))))
-  value p (t.Call n of m xs) s = misfit s
-  value p (t.Assign n op a b) s = misfit s
-  value p (t.Other n) s = misfit s
+  value p (t.Assign n None (t.Name m x) e) s = with_some (p.program.notes.use_at m.id) s (λ u. and_then (value p e s) (λ a s. stored u a s))
+  value p e s = misfit s
 
   pub values : Place → Exprs → State → Outcome (List Value)
   values p t.End s = Gives [] s
@@ -99,9 +103,8 @@ abbrev mutual
   pub statement : Place → Stmt → State → Outcome (Unit {0})
   statement p (t.Block n xs) s = all_statements p xs s
   statement p (t.Local n f c (x ∷ [])) s = with_some x.init s (λ e. and_then (value p e s) (λ a s. Gives tt (record s { frame = record { node = x.node.id; value = a } ∷ s.frame })))
-  statement p (t.Local n f c xs) s = misfit s
   statement p (t.Value n e) s = performed p e s
-  statement p (t.OtherStmt n) s = misfit s
+  statement p x s = misfit s
 
   pub all_statements : Place → Stmts → State → Outcome (Unit {0})
   all_statements p t.Last s = Gives tt s

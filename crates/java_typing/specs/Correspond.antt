@@ -1,5 +1,5 @@
 -- Programs, and the correspondence of two programs whose classes, methods and nodes have the same numbers.
-use Rattle.std.specs.Prelude.{◌≡◌, ℕ, ◌⊎◌, List, [], ◌∷◌, Option, Some}
+use Rattle.std.specs.Prelude.{◌≡◌, ℕ, ◌⊎◌, List, [], ◌∷◌, Option, Some, None}
 use Rattle.java_tree.specs.declared.tree.Name.{Name}
 use Rattle.java_tree.specs.declared.tree.Node.{Node}
 use Rattle.java_tree.specs.Plain as t
@@ -40,6 +40,7 @@ module _ (g g' : Program) where
       new : {n n' : Node} {c c' : TypeExpr} {xs xs' : Exprs} → g.notes.use_at n.id ≡ g'.notes.use_at n'.id → ExprsAlike xs xs' → ExprAlike (t.New n c xs) (t.New n' c' xs')
       call : {n n' : Node} {e e' : Expr} {m : Name} {xs xs' : Exprs} → UsesAlike g.world (g.notes.use_at n.id) (g'.notes.use_at n'.id) → ExprAlike e e' → ExprsAlike xs xs'
           → ExprAlike (t.Call n (t.AnExpr e) m xs) (t.Call n' (t.AnExpr e') m xs')
+      assign : {n n' : Node} {to to' e e' : Expr} → ExprAlike to to' → ExprAlike e e' → ExprAlike (t.Assign n None to e) (t.Assign n' None to' e')
 
     pub data ExprsAlike : Exprs → Exprs → Type 0 where
       end : ExprsAlike t.End t.End

@@ -54,11 +54,22 @@ module _ (typed : ℕ → JavaType → Type 0) (used : ℕ → Use → Type 0) (
   IsCallTyped ls (t.Call n (t.AnExpr e) m t.End) = (c : ℕ) × HasType ls e (ty.Class c []) × (k : ℕ) × IsChosen w c m k × used n.id (use_of.Method k)
   IsCallTyped ls _ = ⊥
 
+  -- The values of small programs are of class types: so a name that gives one, or is assigned, is a local of an earlier statement. (Main's
+  -- parameter is of an array type.)
+  abbrev pub HasClass : List Local → Expr → ℕ → Type 0
+  HasClass ls e c = HasType ls e (ty.Class c [])
+
+  -- T58: the assigned value's type is below the variable's, which is the assignment's type.
+  abbrev pub IsPerformed : List Local → Expr → Type 0
+  IsPerformed ls (t.Assign n None (t.Name m x) e) =
+      (c : ℕ) × HasClass ls (t.Name m x) c × typed n.id (ty.Class c []) × (d : ℕ) × HasClass ls e d × Subtype w (ty.Class d []) (ty.Class c [])
+  IsPerformed ls e = IsCallTyped ls e
+
   -- T4: the initialiser's type is below the local's. T5: the name is new in its scope.
   abbrev pub IsStmtTyped : List Local → Stmt → Type 0
   IsStmtTyped ls (t.Local n f x (v ∷ [])) =
-      (c : ℕ) × (step_type u x ≡ Some c) × (find_local ls v.name ≡ None) × (e : Expr) × (v.init ≡ Some e) × (a : JavaType) × HasType ls e a × Subtype w a (ty.Class c [])
-  IsStmtTyped ls (t.Value n e) = IsCallTyped ls e
+      (c : ℕ) × (step_type u x ≡ Some c) × (find_local ls v.name ≡ None) × (e : Expr) × (v.init ≡ Some e) × (d : ℕ) × HasClass ls e d × Subtype w (ty.Class d []) (ty.Class c [])
+  IsStmtTyped ls (t.Value n e) = IsPerformed ls e
   IsStmtTyped ls _ = ⊥
 
   abbrev pub AreTyped : List Local → Stmts → Type 0

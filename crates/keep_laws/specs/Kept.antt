@@ -17,11 +17,6 @@ use Rattle.constraint_terms.specs.Question.{Local}
 abbrev pub IsNameOf : SourceUnit → ℕ → ℕ → Type 0
 IsNameOf u n target = (if n == 0 then Some 0 else place_of n (before_last u.types) 16) ≡ Some target
 
--- MEMBER: each call on the local chooses a method of the new type (JLS 15.12.2)
-abbrev pub AllAnswered : SourceUnit → World → Local → ℕ → Type 0
-AllAnswered u w x target = (stmt call receiver : Node) (m : Name)
-    → HasStmt (main_steps u) (t.Value stmt (t.Call call (t.AnExpr (t.Name receiver x.name)) m t.End)) → (k : ℕ) × IsChosen w target m k
-
 -- the use is of the method that a call of this name chooses on a class
 abbrev pub UsesChosen : World → ℕ → Name → Option Use → Type 0
 UsesChosen w c m used = (k : ℕ) × (used ≡ Some (use_of.Method k)) × IsChosen w c m k

@@ -17,16 +17,16 @@ ghost use Rattle.java_typing.specs.Declarations.{DeclarationsHold};
 ghost use Rattle.java_typing.specs.Typing.{StepsHold, Annotation, Annotates};
 ghost use Rattle.java_typing.specs.Correspond.{Program, IsProgramOf, Correspond};
 ghost use Rattle.constraint_terms.specs.Effect.{generalized};
-ghost use Rattle.constraint_terms.specs.Question.{Local, Declares};
+ghost use Rattle.constraint_terms.specs.Question.{Local, Declares, AreMet};
 ghost use Rattle.tree_edit.specs.Order.{InOrder};
-ghost use Rattle.keep_laws.specs.Kept.{IsNameOf, AllAnswered, CallKeeps};
+ghost use Rattle.keep_laws.specs.Kept.{IsNameOf, CallKeeps};
 
 /// Where no rule is broken, and a local variable of main (JLS 14.4) is declared of a type above its own that answers each call
-/// on it, the changed file has the same types and methods, and no rule is broken.
+/// on it and fits where it flows to another local, the changed file has the same types and methods, and no rule is broken.
 pub fn generalize_keeps()
     ensures { (names : List (List ℕ)) (ts : List Tok) (u : SourceUnit) (x : Local) (target : ℕ) (c : Change) → InOrder ts → Spells names ts u
         → DeclarationsHold names u (world_of u) → StepsHold u (world_of u) → Declares u x → c.from ≡ x.head.from → c.to ≡ x.head.to
-        → IsNameOf u c.name target → IsBelow (world_of u) x.ty target → AllAnswered u (world_of u) x target
+        → IsNameOf u c.name target → IsBelow (world_of u) x.ty target → AreMet u (world_of u) x target
         → (world_of (generalized c u) ≡ world_of u) × DeclarationsHold names (generalized c u) (world_of (generalized c u))
         × StepsHold (generalized c u) (world_of (generalized c u)) }
 {}

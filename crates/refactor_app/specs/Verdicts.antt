@@ -11,7 +11,7 @@ use Rattle.java_typing.specs.Correspond.{IsProgramOf}
 use Rattle.java_typing.specs.Correspond as running
 use Rattle.java_meaning.specs.Alike.{BehaveAlike}
 use Rattle.constraint_terms.specs.Effect.{generalized}
-use Rattle.constraint_terms.specs.Question.{Local, Declares, BeginsAt, IsUnmet, IsFirstUnmet}
+use Rattle.constraint_terms.specs.Question.{Local, Declares, BeginsAt, CKind, Assign, Member, IsUnmet, IsFirstUnmet}
 use Rattle.refactor_app.specs.Words.{Request}
 use Rattle.refactor_app.specs.Program.{Program, IsSmall, IsReadBy, IsChecked, IsTypeNamed, IsAnnotated}
 use Rattle.report_text.specs.Report.{refused, refused_at}
@@ -37,14 +37,19 @@ pub record Names (q : Request) (text : List ℕ) (p : Program) (x : Local) : Typ
   pub declared : Declares p.unit x
   pub begins : BeginsAt text x (asked q)
 
--- The first rule that stands against the request, with its line.
+-- as the line names it
+abbrev pub kind_name : CKind → List ℕ
+kind_name Assign = codes "ASSIGN"
+kind_name Member = codes "MEMBER"
+
+-- The first rule or constraint that stands against the request, with its line.
 pub data Refuses (q : Request) (text : List ℕ) : List ℕ → Type 0 where
   n2 : IsNotSmall q text → Refuses q text (refused (codes "N2"))
   v1 : {p : Program} {target : ℕ} → Speaks q text p target → HasNoPlace q text p → Refuses q text (refused (codes "V1"))
   v3 : {p : Program} {target : ℕ} {x : Local} → Speaks q text p target → Names q text p x → (IsBelow (world_of p.unit) x.ty target → ⊥)
       → Refuses q text (refused_at (codes "V3") q.file (asked q))
-  member : {p : Program} {target : ℕ} {x : Local} {call : Node} → Speaks q text p target → Names q text p x → IsBelow (world_of p.unit) x.ty target
-      → IsFirstUnmet p.unit (world_of p.unit) x target call → Refuses q text (refused_at (codes "MEMBER") q.file (place_at text call.span.from))
+  unmet : {p : Program} {target : ℕ} {x : Local} {kind : CKind} {n : Node} → Speaks q text p target → Names q text p x → IsBelow (world_of p.unit) x.ty target
+      → IsFirstUnmet p.unit (world_of p.unit) x target kind n → Refuses q text (refused_at (kind_name kind) q.file (place_at text n.span.from))
 
 -- The change: the edit, and the program before and after it.
 pub record Changes (q : Request) (text new : List ℕ) (e : Edit) : Type 0 where
@@ -54,7 +59,7 @@ pub record Changes (q : Request) (text new : List ℕ) (e : Edit) : Type 0 where
   pub speaks : Speaks q text old target
   pub local : Names q text old x
   pub below : IsBelow (world_of old.unit) x.ty target
-  pub met : (call : Node) → IsUnmet old.unit (world_of old.unit) x target call → ⊥
+  pub met : (kind : CKind) (n : Node) → IsUnmet old.unit (world_of old.unit) x target kind n → ⊥
   -- the edit is the type's head, and its text the new type's name
   pub from : e.from ≡ x.head.from
   pub to : e.to ≡ x.head.to

@@ -119,27 +119,56 @@ module _ (names : List (List ℕ)) (ts : List Tok) where
   abbrev pub IsClass : ℕ → TypeDecl → ℕ → ℕ → Type 0
   IsClass n x i j = IsPlainClass n x i j ⊎ IsClassBelow n x i j
 
-  -- A x = new B();
-  abbrev pub local_at : ℕ → ℕ → Stmt
-  local_at n i = t.Local (node_of n i (i + 8)) false (type_at (n + 1) i 0) (record {
-    node = node_of (n + 2) (i + 1) (i + 7);
+  -- new B()
+  abbrev pub new_at : ℕ → ℕ → Expr
+  new_at n i = t.New (node_of n i (i + 4)) (type_at (n + 1) (i + 1) 0) t.End
+
+  -- new B(), or x
+  abbrev pub IsValue : ℕ → Expr → ℕ → ℕ → Type 0
+  IsValue n e i j =
+      (Stand (s.New ∷ s.Word ∷ s.Open ∷ s.Close ∷ []) i × (e ≡ new_at n i) × (j ≡ i + 4))
+      ⊎ (Stand (s.Word ∷ []) i × (e ≡ name_expr n i) × (j ≡ i + 1))
+
+  -- A x = ..; where the value ends before token m
+  abbrev pub local_at : ℕ → ℕ → ℕ → Expr → Stmt
+  local_at n i m e = t.Local (node_of n i (m + 1)) false (type_at (n + 1) i 0) (record {
+    node = node_of (n + 2) (i + 1) m;
     name = name_at (i + 1);
     dims = 0;
-    init = Some (t.New (node_of (n + 3) (i + 3) (i + 7)) (type_at (n + 4) (i + 4) 0) t.End);
+    init = Some e;
   } ∷ [])
+
+  -- x = ..;
+  abbrev pub assign_at : ℕ → ℕ → ℕ → Expr → Stmt
+  assign_at n i m e = t.Value (node_of n i (m + 1)) (t.Assign (node_of (n + 1) i m) None (name_expr (n + 2) i) e)
 
   -- x.m();
   abbrev pub call_at : ℕ → ℕ → Stmt
   call_at n i = t.Value (node_of n i (i + 6)) (t.Call (node_of (n + 1) i (i + 5)) (t.AnExpr (name_expr (n + 2) i)) (name_at (i + 2)) t.End)
 
-  abbrev pub IsLocal : ℕ → Stmt → ℕ → ℕ → Type 0
-  IsLocal n x i j = Stand (s.Word ∷ s.Word ∷ s.Equals ∷ s.New ∷ s.Word ∷ s.Open ∷ s.Close ∷ s.Semicolon ∷ []) i × (x ≡ local_at n i) × (j ≡ i + 8)
+  pub record IsLocal (n : ℕ) (x : Stmt) (i j : ℕ) : Type 0 where
+    pub stand : Stand (s.Word ∷ s.Word ∷ s.Equals ∷ []) i
+    pub init : Expr
+    pub end : ℕ
+    pub value : IsValue (n + 3) init (i + 3) end
+    pub close : Stand (s.Semicolon ∷ []) end
+    pub next : j ≡ end + 1
+    pub tree : x ≡ local_at n i end init
+
+  pub record IsAssign (n : ℕ) (x : Stmt) (i j : ℕ) : Type 0 where
+    pub stand : Stand (s.Word ∷ s.Equals ∷ []) i
+    pub from : Expr
+    pub end : ℕ
+    pub value : IsValue (n + 3) from (i + 2) end
+    pub close : Stand (s.Semicolon ∷ []) end
+    pub next : j ≡ end + 1
+    pub tree : x ≡ assign_at n i end from
 
   abbrev pub IsCall : ℕ → Stmt → ℕ → ℕ → Type 0
   IsCall n x i j = Stand (s.Word ∷ s.Dot ∷ s.Word ∷ s.Open ∷ s.Close ∷ s.Semicolon ∷ []) i × (x ≡ call_at n i) × (j ≡ i + 6)
 
   abbrev pub IsStep : ℕ → Stmt → ℕ → ℕ → Type 0
-  IsStep n x i j = IsLocal n x i j ⊎ IsCall n x i j
+  IsStep n x i j = IsLocal n x i j ⊎ IsAssign n x i j ⊎ IsCall n x i j
 
   abbrev pub AreSteps : ℕ → Stmts → ℕ → ℕ → Type 0
   AreSteps n t.Last i j = j ≡ i
