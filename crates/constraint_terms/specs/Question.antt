@@ -48,9 +48,9 @@ pub record LacksMember (u : SourceUnit) (w : World) (x : Local) (target : ℕ) (
 
 -- a value flows to a variable of this name: by its initialiser (JLS 14.4.2), or by an assignment (JLS 15.26)
 pub data FlowsTo (u : SourceUnit) (to : Name) (value : Expr) : Type 0 where
-  by_initialiser : {n : Node} {is_final : Bool} {ty : TypeExpr} {v : Var} → HasStmt (main_steps u) (t.Local n is_final ty (v ∷ [])) → v.name ≡ to → v.init ≡ Some value
+  by_initialiser : (n : Node) (is_final : Bool) (ty : TypeExpr) (v : Var) → HasStmt (main_steps u) (t.Local n is_final ty (v ∷ [])) → v.name ≡ to → v.init ≡ Some value
       → FlowsTo u to value
-  by_assignment : {n assign target : Node} → HasStmt (main_steps u) (t.Value n (t.Assign assign None (t.Name target to) value)) → FlowsTo u to value
+  by_assignment : (n assign target : Node) → HasStmt (main_steps u) (t.Value n (t.Assign assign None (t.Name target to) value)) → FlowsTo u to value
 
 -- ASSIGN at a value that is the local: it flows to another local, whose type the new type is not below
 pub record DoesNotFit (u : SourceUnit) (w : World) (x : Local) (target : ℕ) (value : Node) : Type 0 where

@@ -14,7 +14,7 @@ use Rattle.java_tree.specs.declared.tree.Catch.{Catch}
 use Rattle.java_tree.specs.declared.tree.Group.{Group}
 use Rattle.java_tree.specs.declared.tree.Node.{Node}
 use Rattle.java_tree.specs.Plain as t
-use Rattle.java_tree.specs.View.{decl_plain, member_plain, unit_plain, stmt_plain, stmt_form, stmt_node}
+use Rattle.java_tree.specs.View.{decl_plain, member_plain, unit_plain, stmt_plain, stmt_form, stmt_node, catch_node, group_node}
 use Rattle.java_tree.proofs.Views.{stmt_out}
 use Rattle.java_typing.specs.Main.{last_type, first_method, main_method, statements, is_block}
 
@@ -50,10 +50,10 @@ main_is u types d o same last first =
 
 -- one level of the view of a statement
 abbrev level : g.StmtForm-F StmtForm Catch Group Stmt → Node → t.Stmt
-level L = stmt_form (map-StmtForm StmtForm Catch Group Stmt (Node → t.Stmt) (Unit {0}) (Unit {0}) t.Stmt
-    (fold-StmtForm (Node → t.Stmt) (Unit {0}) (Unit {0}) t.Stmt stmt_form (λ _. tt) (λ _. tt) stmt_node)
-    (fold-Catch (Node → t.Stmt) (Unit {0}) (Unit {0}) t.Stmt stmt_form (λ _. tt) (λ _. tt) stmt_node)
-    (fold-Group (Node → t.Stmt) (Unit {0}) (Unit {0}) t.Stmt stmt_form (λ _. tt) (λ _. tt) stmt_node) stmt_plain L)
+level L = stmt_form (map-StmtForm StmtForm Catch Group Stmt (Node → t.Stmt) t.Catch t.Group t.Stmt
+    (fold-StmtForm (Node → t.Stmt) t.Catch t.Group t.Stmt stmt_form catch_node group_node stmt_node)
+    (fold-Catch (Node → t.Stmt) t.Catch t.Group t.Stmt stmt_form catch_node group_node stmt_node)
+    (fold-Group (Node → t.Stmt) t.Catch t.Group t.Stmt stmt_form catch_node group_node stmt_node) stmt_plain L)
 
 level_is_no_block : (L : g.StmtForm-F StmtForm Catch Group Stmt) (n : Node) → ((xs : List Stmt) → L ≡ g.Block xs → ⊥) → statements (Some (level L n)) ≡ t.Last
 level_is_no_block (g.Block xs) n h = absurd (h xs refl)
