@@ -300,12 +300,12 @@ impl Model for MemSink {
 }
 
 impl MemSink {
-    /// There is no room for puts.
-    pub fn new(alloc: Global, fail: Vec<u32>) -> MemSink
+    /// There is no room for puts. It takes no memory.
+    pub fn new(fail: Vec<u32>) -> MemSink
         ensures { result ≡ sink_store fail.items }
     {
         MemSink {
-            written: Vec::new(alloc),
+            written: Vec::new(*fail.allocator()),
             fail,
             calls: 0,
             room: 0,
@@ -439,9 +439,53 @@ mod tests {
     }
 
     #[test]
+    fn each_call_fails_in_turn(rt: HostRuntime) -> Result<(), Fail> {
+        let alloc = rt.alloc();
+        for number in 1..=5u32 {
+            let mut files = one_file(alloc, vec![in alloc; number]?)?;
+            files.reserve(1, 28)?;
+            let mut into = Vec::new(alloc);
+            let answers = [
+                files.read("A.java", 10, &mut into).is_err(),
+                files.write("B.java", b"class B {}").is_err(),
+                files.read("A.java", 10, &mut into).is_err(),
+                files.write("A.java", b"other!").is_err(),
+                files.read("A.java", 0, &mut into).is_err(),
+            ];
+            let fails = [
+                number == 1,
+                number == 2,
+                number == 3,
+                number == 4,
+                number == 5,
+            ];
+            assert_eq!(rt; answers, fails, "of the files, call {number}");
+            let kept = number == 4;
+            assert_eq!(rt;
+                files.bytes("A.java") == Some(b"class A {}".as_slice()),
+                kept
+            );
+            assert_eq!(rt; files.bytes("A.java") == Some(b"other!".as_slice()), !kept);
+            assert_eq!(rt; files.bytes("B.java").is_none(), number == 2);
+
+            let mut sink = MemSink::new(vec![in alloc; number]?);
+            sink.reserve(5)?;
+            for put in 1..=5 {
+                assert_eq!(rt;
+                    sink.put(b"1").is_err(),
+                    put == number,
+                    "of the sink, put {put}"
+                );
+            }
+            assert_eq!(rt; sink.written(), b"1111".as_slice());
+        }
+        Ok(())
+    }
+
+    #[test]
     fn puts(rt: HostRuntime) -> Result<(), Fail> {
         let alloc = rt.alloc();
-        let mut sink = MemSink::new(alloc, vec![in alloc; 2]?);
+        let mut sink = MemSink::new(vec![in alloc; 2]?);
         sink.reserve(6)?;
         assert_eq!(rt; sink.put(b"done"), Ok(()));
         assert_eq!(rt; sink.put(b"!"), Err(SinkFailed), "the second call");
