@@ -31,6 +31,7 @@ impl<'a, R> Model for DirFiles<'a, R> {
 }
 
 impl<R: rt::Files> DirFiles<'_, R> {
+    /// No call has failed yet. It takes no memory.
     pub fn new(rt: &R) -> DirFiles<'_, R>
         ensures { result ≡ no_counts }
     {
@@ -96,7 +97,7 @@ fn read_file(
     }
 }
 
-/// Appends the first `most` bytes that a reader gives, or all where it gives fewer.
+/// Appends the first `most` bytes that a reader gives, or all where it gives fewer. A read that gives nothing is the end.
 fn read_pieces<R: Read>(file: &mut R, most: usize, into: &mut Vec<u8>) -> Result<(), FileFault>
     ensures more { (more : List ℕ) × (into.new.items ≡ into.old.items ++ more) × (length more ≤ most) }
     ensures known { OnOk result (IfSome (R.remaining file.old) (λ bytes. into.new.items ≡ into.old.items ++ take most bytes)) }
@@ -106,7 +107,7 @@ fn read_pieces<R: Read>(file: &mut R, most: usize, into: &mut Vec<u8>) -> Result
         .resize(most.min(PIECE), 0)
         .or(Err(FileFault::NoMemory))?;
     let mut left = most;
-    // Each turn reads a byte at least, or is the last.
+    // Each turn reads a byte at least, or is the last, so there are at most `most` of them.
     'pieces: while left > 0 {
         let asked = left.min(piece.len());
         let count = read_piece(file, &mut piece[..asked], into)?;
@@ -144,12 +145,12 @@ fn write_file(rt: &impl rt::Files, name: &str, bytes: &[u8]) -> io::Result<()> {
     write_pieces(&mut fs::create(rt, name)?, bytes)
 }
 
-/// Writes all bytes, and flushes.
+/// Writes all bytes, and flushes. A write that takes nothing is a fault.
 fn write_pieces<W: Write>(out: &mut W, bytes: &[u8]) -> io::Result<()>
     ensures { OnOk result (Appends (W.contents out.old) (W.contents out.new) bytes.now) }
 {
     let mut rest = bytes;
-    // Each turn writes a byte at least.
+    // Each turn writes a byte at least, so there are at most as many as bytes.
     'pieces: while !rest.is_empty() {
         let count = out.write(rest)?;
         if count == 0 {
@@ -176,6 +177,7 @@ impl<'a, R> Model for StdSink<'a, R> {
 }
 
 impl<R: Print> StdSink<'_, R> {
+    /// No put has failed yet. It takes no memory.
     pub fn new(rt: &R) -> StdSink<'_, R>
         ensures { result ≡ 0 }
     {

@@ -139,7 +139,8 @@ impl MemFiles {
         })
     }
 
-    /// Makes room for this many new names, and for this many bytes of names and contents.
+    /// Makes the room at least this many new names, and this many bytes of names and contents.
+    /// A write takes its name, where that is new, and its bytes; nothing is given back.
     pub fn reserve(&mut self, names: usize, bytes: usize) -> Result<(), NoMemory>
         ensures ok { OnOk result (self.new ≡ record self.old {
           name_room = max self.old.name_room names;
@@ -154,7 +155,7 @@ impl MemFiles {
         Ok(())
     }
 
-    /// The bytes of a name.
+    /// The bytes of a name, where it is there. It takes no memory.
     pub fn bytes(&self, name: &str) -> Option<&[u8]>
         ensures { option_copied result ≡ look_up self.now.files name.now }
     {
@@ -313,7 +314,7 @@ impl MemSink {
         }
     }
 
-    /// Makes room for this many bytes.
+    /// Makes the room at least this many bytes. A put takes its bytes.
     pub fn reserve(&mut self, bytes: usize) -> Result<(), NoMemory>
         ensures ok { OnOk result (self.new ≡ record self.old { room = max self.old.room bytes }) }
         ensures err { OnErr result (self.new ≡ self.old) }
@@ -323,7 +324,7 @@ impl MemSink {
         Ok(())
     }
 
-    /// The bytes put so far.
+    /// The bytes put so far. It takes no memory.
     pub fn written(&self) -> &[u8]
         ensures { result.now ≡ self.now.written }
     {
