@@ -39,7 +39,7 @@ fn files(alloc: Global, text: &[u8], fail: &[u32]) -> Result<MemFiles, NoMemory>
 
 /// A sink with room for a report, and puts that fail.
 fn sink(alloc: Global, fail: &[u32]) -> Result<MemSink, NoMemory> {
-    let mut sink = MemSink::new(alloc, Vec::from_slice(alloc, fail)?);
+    let mut sink = MemSink::new(Vec::from_slice(alloc, fail)?);
     sink.reserve(256)?;
     Ok(sink)
 }
