@@ -34,19 +34,12 @@ module _ (c : Change) where
   same_member_id (t.AMethod m) = refl
 
   pub same_stmt_id : (x : Stmt) → (stmt_root (stmt c x)).id ≡ (stmt_root x).id
-  same_stmt_id (t.Block n xs) = refl
-  same_stmt_id (t.Local n f ty vs) = refl
-  same_stmt_id (t.Value n x) = refl
-  same_stmt_id (t.OtherStmt n) = refl
+  same_stmt_id (t.Empty n) = refl
+  same_stmt_id _ = refl
 
   pub same_expr_id : (x : Expr) → (expr_root (expr c x)).id ≡ (expr_root x).id
-  same_expr_id (t.Text n x) = refl
-  same_expr_id (t.Name n x) = refl
-  same_expr_id (t.Field n x f) = refl
-  same_expr_id (t.Call n of f xs) = refl
-  same_expr_id (t.New n ty xs) = refl
-  same_expr_id (t.Assign n op a b) = refl
-  same_expr_id (t.Other n) = refl
+  same_expr_id (t.Null n) = refl
+  same_expr_id _ = refl
 
   pub same_type_id : (x : TypeExpr) → (type_root (type c x)).id ≡ (type_root x).id
   same_type_id (t.Written n h s args d) = refl
@@ -74,9 +67,7 @@ module _ (c : Change) where
   statements_changed : (x : Option Stmt) → statements (option_map (stmt c) x) ≡ stmts c (statements x)
   statements_changed None = refl
   statements_changed (Some (t.Block n xs)) = refl
-  statements_changed (Some (t.Local n f ty vs)) = refl
-  statements_changed (Some (t.Value n x)) = refl
-  statements_changed (Some (t.OtherStmt n)) = refl
+  statements_changed (Some _) = refl
 
   body_of_changed : (m : Option MethodDecl) → body_of (option_map (method c) m) ≡ stmts c (body_of m)
   body_of_changed None = refl

@@ -6,32 +6,39 @@ use Rattle.java_tree.specs.declared.tree.Span.{Span}
 use Rattle.java_tree.specs.declared.tree.Head.{Head}
 use Rattle.java_tree.specs.declared.tree.Head.TheVariants as head
 use Rattle.java_tree.specs.Plain as t
-use Rattle.java_tree.specs.Plain.{TypeExprs, Var, Stmt, Stmts, TypeDecl, SourceUnit}
+use Rattle.java_tree.specs.Plain.{TypeExprs, Expr, Var, Stmt, Stmts, TypeDecl, SourceUnit}
 use Rattle.small_lexer.specs.declared.token.Tok.{Tok}
 use Rattle.small_lexer.specs.declared.token.Sort.{Sort}
 use Rattle.small_lexer.specs.declared.token.Sort.TheVariants as s
 use Rattle.small_lexer.specs.Reads.{sort_at, from_at, span_of}
 use Rattle.small_lexer.proofs.Places.{here}
 use Rattle.small_parser.specs.Nodes.{stmt_nodes}
-use Rattle.small_parser.specs.Grammar.{Stand, local_at, IsStep, AreSteps, IsMain, AreTypes, Spells}
+use Rattle.small_parser.specs.Grammar.{IsValue, IsLocal, IsStep, AreSteps, IsMain, AreTypes, Spells}
 use Rattle.java_typing.specs.Main.{last_type, first_method, body_of, main_steps, HasStmt}
 use Rattle.tree_edit.specs.Order.{InOrder}
 use Rattle.tree_edit.specs.Roots.{stmt_root}
 use Rattle.tree_edit.specs.Locals.{HasHead, AreBehind, StmtsInOrder}
 use Rattle.tree_edit.proofs.Standing.{inside, sort_of, text_of, place_of, begins, rises, stand_at}
 
--- the kinds of the tokens of a local, and of a call
+-- The kinds of the tokens of a local and of an assignment, up to the value; of the value, which is made or a name; of a call.
 abbrev pub local_sorts : List Sort
-local_sorts = s.Word ∷ s.Word ∷ s.Equals ∷ s.New ∷ s.Word ∷ s.Open ∷ s.Close ∷ s.Semicolon ∷ []
+local_sorts = s.Word ∷ s.Word ∷ s.Equals ∷ []
+
+abbrev pub assign_sorts : List Sort
+assign_sorts = s.Word ∷ s.Equals ∷ []
+
+abbrev pub new_sorts : List Sort
+new_sorts = s.New ∷ s.Word ∷ s.Open ∷ s.Close ∷ []
+
+abbrev pub name_sorts : List Sort
+name_sorts = s.Word ∷ s.Semicolon ∷ []
 
 abbrev pub call_sorts : List Sort
 call_sorts = s.Word ∷ s.Dot ∷ s.Word ∷ s.Open ∷ s.Close ∷ s.Semicolon ∷ []
 
 has_nodes : (x : Stmt) → 0 < stmt_nodes x
-has_nodes (t.Block n xs) = omega arith
-has_nodes (t.Local n f ty vs) = omega arith
-has_nodes (t.Value n x) = omega arith
-has_nodes (t.OtherStmt n) = omega arith
+has_nodes (t.Empty n) = omega arith
+has_nodes _ = omega arith
 
 -- ---- statements in order
 
@@ -68,12 +75,24 @@ begins_once = once (λ a. a.span.from) (λ a b id from. from)
 -- ---- the tokens of a step
 
 module _ (names : List (List ℕ)) (ts : List Tok) where
+  -- a value has tokens
+  pub value_on : (n : ℕ) (e : Expr) (i j : ℕ) → IsValue names ts n e i j → i < j
+  value_on n e i j (inl (stand, tree, next)) = omega arith
+  value_on n e i j (inr (stand, tree, next)) = omega arith
+
   -- a step ends within the list, and has tokens
   pub step_within : (n : ℕ) (x : Stmt) (i j : ℕ) → IsStep names ts n x i j → (i < j) × (j ≤ length ts)
-  step_within n x i j (inl (stand, tree, next)) =
-      let last = inside ts (i + 7) (λ e. let end = stand_at names ts local_sorts i 7 s.Semicolon stand refl in cc) in
+  step_within n x i j (inl h) =
+      let on = value_on (n + 3) h.init (i + 3) h.end h.value in
+      let last = inside ts h.end (λ e. let end = h.close.0 in cc) in
+      let next = h.next in
       (omega arith, omega arith)
-  step_within n x i j (inr (stand, tree, next)) =
+  step_within n x i j (inr (inl h)) =
+      let on = value_on (n + 3) h.from (i + 2) h.end h.value in
+      let last = inside ts h.end (λ e. let end = h.close.0 in cc) in
+      let next = h.next in
+      (omega arith, omega arith)
+  step_within n x i j (inr (inr (stand, tree, next))) =
       let last = inside ts (i + 5) (λ e. let end = stand_at names ts call_sorts i 5 s.Semicolon stand refl in cc) in
       (omega arith, omega arith)
 
@@ -131,8 +150,8 @@ module _ (names : List (List ℕ)) (ts : List Tok) where
   pub record LocalAt (x : Stmt) (span : Span) : Type 0 where
     pub number : ℕ
     pub place : ℕ
-    pub stand : Stand names ts local_sorts place
-    pub tree : x ≡ local_at names ts number place
+    pub next : ℕ
+    pub is : IsLocal names ts number x place next
     pub head : span_of ts place (place + 1) ≡ span
 
   pub local_place : (u : SourceUnit) → Spells names ts u → (x : Stmt) → HasStmt (main_steps u) x → (span : Span) → HasHead x span → LocalAt x span
@@ -142,9 +161,10 @@ module _ (names : List (List ℕ)) (ts : List Tok) where
       there = main_step u spells x has
 
       by_step : IsStep names ts there.number x there.place there.next → LocalAt x span
-      by_step (inl (stand, tree, next)) =
-          record { number = there.number; place = there.place; stand = stand; tree = tree; head = subst (λ x. HasHead x span) tree head }
-      by_step (inr (stand, tree, next)) = absurd (subst (λ x. HasHead x span) tree head)
+      by_step (inl h) =
+          record { number = there.number; place = there.place; next = there.next; is = h; head = subst (λ x. HasHead x span) h.tree head }
+      by_step (inr (inl h)) = absurd (subst (λ x. HasHead x span) h.tree head)
+      by_step (inr (inr (stand, tree, next))) = absurd (subst (λ x. HasHead x span) tree head)
 
   -- the token that is the head of a local's type
   pub local_token : (u : SourceUnit) → Spells names ts u → (n tn : Node) (f : Bool) (h : Head) (span : Span) (args : TypeExprs) (d : ℕ) (vs : List Var)
@@ -154,8 +174,8 @@ module _ (names : List (List ℕ)) (ts : List Tok) where
       let x = t.Local n f (t.Written tn h span args d) vs in
       let at = local_place u spells x has span refl in
       let k = at.place in
-      let tree = at.tree in
-      let word = at.stand.0 in
+      let tree = at.is.tree in
+      let word = at.is.stand.0 in
       let found = here ts k (inside ts k (λ e. cc)) in
       let sort = sort_of ts k found.0 found.1 in
       let text = text_of ts k found.0 found.1 in
@@ -167,20 +187,21 @@ module _ (names : List (List ℕ)) (ts : List Tok) where
       → (k : ℕ) × (sort_at ts k ≡ s.Word) × (sort_at ts (k + 1) ≡ s.Word) × (from_at ts k ≡ span.from)
   two_words u spells x has span head =
       let at = local_place u spells x has span head in
-      (at.place, at.stand.0, at.stand.1.0, sym (begins ts at.place (at.place + 1)) ∙ ap (λ (s : Span). s.from) at.head)
+      (at.place, at.is.stand.0, at.is.stand.1.0, sym (begins ts at.place (at.place + 1)) ∙ ap (λ (s : Span). s.from) at.head)
 
   -- a local begins with the head of its type
   pub begins_at : (u : SourceUnit) → Spells names ts u → (x : Stmt) → HasStmt (main_steps u) x → (span : Span) → HasHead x span → (stmt_root x).span.from ≡ span.from
   begins_at u spells x has span head =
       let at = local_place u spells x has span head in
-      ap (λ x. (stmt_root x).span.from) at.tree ∙ begins ts at.place (at.place + 8) ∙ sym (begins ts at.place (at.place + 1)) ∙ ap (λ (s : Span). s.from) at.head
+      ap (λ x. (stmt_root x).span.from) at.is.tree ∙ begins ts at.place (at.is.end + 1) ∙ sym (begins ts at.place (at.place + 1)) ∙ ap (λ (s : Span). s.from) at.head
 
   -- ---- order
 
   -- a statement's number and first byte are those that its place gives
   pub step_node : (n : ℕ) (x : Stmt) (i j : ℕ) → IsStep names ts n x i j → ((stmt_root x).id ≡ n) × ((stmt_root x).span.from ≡ from_at ts i)
-  step_node n x i j (inl (stand, tree, next)) = (ap (λ x. (stmt_root x).id) tree, ap (λ x. (stmt_root x).span.from) tree ∙ begins ts i (i + 8))
-  step_node n x i j (inr (stand, tree, next)) = (ap (λ x. (stmt_root x).id) tree, ap (λ x. (stmt_root x).span.from) tree ∙ begins ts i (i + 6))
+  step_node n x i j (inl h) = (ap (λ x. (stmt_root x).id) h.tree, ap (λ x. (stmt_root x).span.from) h.tree ∙ begins ts i (h.end + 1))
+  step_node n x i j (inr (inl h)) = (ap (λ x. (stmt_root x).id) h.tree, ap (λ x. (stmt_root x).span.from) h.tree ∙ begins ts i (h.end + 1))
+  step_node n x i j (inr (inr (stand, tree, next))) = (ap (λ x. (stmt_root x).id) tree, ap (λ x. (stmt_root x).span.from) tree ∙ begins ts i (i + 6))
 
   module _ (order : InOrder ts) where
     are_behind : (xs : Stmts) (n i j : ℕ) → AreSteps names ts n xs i j → (a : Node) → a.id < n

@@ -4,7 +4,7 @@ use Rattle.std.proofs.lemmas.List.{length-map}
 use Rattle.java_tree.specs.declared.tree.Head.{Head}
 use Rattle.java_tree.specs.declared.tree.Head.TheVariants as head
 use Rattle.java_tree.specs.Plain as t
-use Rattle.java_tree.specs.Plain.{TypeExpr, Stmt, Stmts, Member, TypeDecl, SourceUnit}
+use Rattle.java_tree.specs.Plain.{TypeExpr, Expr, Stmt, Stmts, Member, TypeDecl, SourceUnit}
 use Rattle.small_lexer.specs.declared.token.Tok.{Tok}
 use Rattle.small_lexer.specs.declared.token.Sort.{Sort}
 use Rattle.small_lexer.specs.declared.token.Sort.TheVariants as s
@@ -12,13 +12,13 @@ use Rattle.small_lexer.specs.Reads.{text_at, from_at}
 use Rattle.small_lexer.specs.Replaced.{Change, moved_tok}
 use Rattle.small_lexer.proofs.Places.{text_at-moved, to_at-moved, span_of-moved}
 use Rattle.small_parser.specs.Nodes.{stmt_nodes, member_nodes, decl_nodes}
-use Rattle.small_parser.specs.Grammar.{Stand, IsCalled, type_at, print_at, IsPrint, ArePrints, method_at, IsMethod, AreMethods, class_at, IsPlainClass, IsClassBelow, IsClass, local_at, call_at, IsStep, AreSteps, main_method, IsMain, AreTypes, Spells}
-use Rattle.constraint_terms.specs.Effect.{type, stmt, stmts, member, decl, generalized}
+use Rattle.small_parser.specs.Grammar.{Stand, IsCalled, type_at, name_expr, print_at, IsPrint, ArePrints, method_at, IsMethod, AreMethods, class_at, IsPlainClass, IsClassBelow, IsClass, new_at, IsValue, local_at, assign_at, call_at, IsLocal, IsAssign, IsStep, AreSteps, main_method, IsMain, AreTypes, Spells}
+use Rattle.constraint_terms.specs.Effect.{type, expr, stmt, stmts, member, decl, generalized}
 use Rattle.tree_edit.specs.Order.{InOrder}
 use Rattle.tree_edit.specs.Locals.{HasLocal}
 use Rattle.tree_edit.proofs.Standing.{inside, begins, stand_at, stand_moved, Keeps, keeps, kept_at}
 use Rattle.tree_edit.proofs.Counts.{stmt_count, member_count, decl_count}
-use Rattle.tree_edit.proofs.MainSteps.{local_sorts, call_sorts, steps_on, two_words}
+use Rattle.tree_edit.proofs.MainSteps.{local_sorts, assign_sorts, new_sorts, name_sorts, call_sorts, value_on, steps_on, two_words}
 
 abbrev print_sorts : List Sort
 print_sorts = s.Word ∷ s.Dot ∷ s.Word ∷ s.Dot ∷ s.Word ∷ s.Open ∷ s.Text ∷ s.Close ∷ s.Semicolon ∷ []
@@ -193,17 +193,64 @@ module _ (names : List (List ℕ)) (ts : List Tok) (c : Change) where
 
     -- ---- the class with main
 
-    local_tree : (n i : ℕ) → Stand names ts local_sorts i → local_at names edited n i ≡ stmt c (local_at names ts n i)
-    local_tree n i stand =
-        let last : i + 7 < length ts = inside ts (i + 7) (λ e. let end = stand_at names ts local_sorts i 7 s.Semicolon stand refl in cc) in
-        rw (
-          type_moved (n + 1) i 0 (omega arith),
-          type_moved (n + 4) (i + 4) 0 (omega arith),
-          span_of-moved c ts i (i + 8) (omega arith) (omega arith),
-          span_of-moved c ts (i + 1) (i + 7) (omega arith) (omega arith),
-          span_of-moved c ts (i + 3) (i + 7) (omega arith) (omega arith),
-          kept_at names ts c kept local_sorts i 1 (i + 1) stand refl (omega arith),
-        ) refl
+    name_moved : (n i : ℕ) → i < length ts → text_at edited i ≡ text_at ts i → name_expr names edited n i ≡ expr c (name_expr names ts n i)
+    name_moved n i in_i same = rw (span_of-moved c ts i (i + 1) (omega arith) (omega arith), same) refl
+
+    -- a value, and the semicolon behind it
+    value_moved : (n : ℕ) (e : Expr) (i j : ℕ) → IsValue names ts n e i j → Stand names ts (s.Semicolon ∷ []) j → IsValue names edited n (expr c e) i j
+    value_moved n e i j (inl (stand, tree, next)) close =
+        let last : i + 3 < length ts = inside ts (i + 3) (λ e. let end = stand_at names ts new_sorts i 3 s.Close stand refl in cc) in
+        let same : new_at names edited n i ≡ expr c (new_at names ts n i) =
+        rw (type_moved (n + 1) (i + 1) 0 (omega arith), span_of-moved c ts i (i + 4) (omega arith) (omega arith)) refl in
+        inl (stand_moved names ts c new_sorts i stand, ap (expr c) tree ∙ sym same, next)
+    value_moved n e i j (inr (stand, tree, next)) close =
+        let both : Stand names ts name_sorts i = (stand.0, subst (Stand names ts (s.Semicolon ∷ [])) next close) in
+        let last : i + 1 < length ts = inside ts (i + 1) (λ e. let end = both.1.0 in cc) in
+        let same = name_moved n i (omega arith) (kept_at names ts c kept name_sorts i 0 i both refl (omega arith)) in
+        inr (stand_moved names ts c (s.Word ∷ []) i stand, ap (expr c) tree ∙ sym same, next)
+
+    local_moved : (n : ℕ) (x : Stmt) (i j : ℕ) → IsLocal names ts n x i j → IsLocal names edited n (stmt c x) i j
+    local_moved n x i j h = record {
+      stand = stand_moved names ts c local_sorts i h.stand;
+      init = expr c h.init;
+      end = h.end;
+      value = value_moved (n + 3) h.init (i + 3) h.end h.value h.close;
+      close = stand_moved names ts c (s.Semicolon ∷ []) h.end h.close;
+      next = h.next;
+      tree = ap (stmt c) h.tree ∙ sym tree;
+    }
+      where
+        tree : local_at names edited n i h.end (expr c h.init) ≡ stmt c (local_at names ts n i h.end h.init)
+        tree =
+            let on = value_on names ts (n + 3) h.init (i + 3) h.end h.value in
+            let last : h.end < length ts = inside ts h.end (λ e. let end = h.close.0 in cc) in
+            rw (
+              type_moved (n + 1) i 0 (omega arith),
+              span_of-moved c ts i (h.end + 1) (omega arith) (omega arith),
+              span_of-moved c ts (i + 1) h.end (omega arith) (omega arith),
+              kept_at names ts c kept local_sorts i 1 (i + 1) h.stand refl (omega arith),
+            ) refl
+
+    assign_moved : (n : ℕ) (x : Stmt) (i j : ℕ) → IsAssign names ts n x i j → IsAssign names edited n (stmt c x) i j
+    assign_moved n x i j h = record {
+      stand = stand_moved names ts c assign_sorts i h.stand;
+      from = expr c h.from;
+      end = h.end;
+      value = value_moved (n + 3) h.from (i + 2) h.end h.value h.close;
+      close = stand_moved names ts c (s.Semicolon ∷ []) h.end h.close;
+      next = h.next;
+      tree = ap (stmt c) h.tree ∙ sym tree;
+    }
+      where
+        tree : assign_at names edited n i h.end (expr c h.from) ≡ stmt c (assign_at names ts n i h.end h.from)
+        tree =
+            let on = value_on names ts (n + 3) h.from (i + 2) h.end h.value in
+            let last : h.end < length ts = inside ts h.end (λ e. let end = h.close.0 in cc) in
+            rw (
+              name_moved (n + 2) i (omega arith) (kept_at names ts c kept assign_sorts i 0 i h.stand refl (omega arith)),
+              span_of-moved c ts i (h.end + 1) (omega arith) (omega arith),
+              span_of-moved c ts i h.end (omega arith) (omega arith),
+            ) refl
 
     call_tree : (n i : ℕ) → Stand names ts call_sorts i → call_at names edited n i ≡ stmt c (call_at names ts n i)
     call_tree n i stand =
@@ -217,8 +264,9 @@ module _ (names : List (List ℕ)) (ts : List Tok) (c : Change) where
         ) refl
 
     step_moved : (n : ℕ) (x : Stmt) (i j : ℕ) → IsStep names ts n x i j → IsStep names edited n (stmt c x) i j
-    step_moved n x i j (inl (stand, tree, next)) = inl (stand_moved names ts c local_sorts i stand, ap (stmt c) tree ∙ sym (local_tree n i stand), next)
-    step_moved n x i j (inr (stand, tree, next)) = inr (stand_moved names ts c call_sorts i stand, ap (stmt c) tree ∙ sym (call_tree n i stand), next)
+    step_moved n x i j (inl h) = inl (local_moved n x i j h)
+    step_moved n x i j (inr (inl h)) = inr (inl (assign_moved n x i j h))
+    step_moved n x i j (inr (inr (stand, tree, next))) = inr (inr (stand_moved names ts c call_sorts i stand, ap (stmt c) tree ∙ sym (call_tree n i stand), next))
 
     steps_moved : (xs : Stmts) (n i j : ℕ) → AreSteps names ts n xs i j → AreSteps names edited n (stmts c xs) i j
     steps_moved t.Last n i j h = h
