@@ -89,7 +89,7 @@ held_here n m a frame e =
     let test : m == n ≡ true = grind (arith, nat_tests) in
     ap (λ t. if t then Some a else held n frame) test
 
--- a name of which the last thing known is not said keeps what it holds, and one with another node too
+-- the variable x, at this node, got the object k, of class c
 module _ (w : World) (heap : List Thing) (frame : List Held) (n m : ℕ) (hs : List Holds) (x : Name) (node c k : ℕ) (there : slice_get heap k ≡ Some (state.Object c [])) where
   abbrev frame_then : List Held
   frame_then = record { node = node; value = v.Ref k } ∷ frame

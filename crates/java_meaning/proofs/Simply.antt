@@ -1,7 +1,6 @@
 -- The run of a small program by the meaning is the run by its parts.
 use Rattle.std.proofs.Common.{◌≡◌, ℕ, zero, suc, ◌+◌, ◌≤◌, inl, inr, List, [], ◌∷◌, ◌++◌, length, slice_get, Option, Some, refl, ap, sym, ◌∙◌, subst, arith}
 use Rattle.std.specs.Prelude.{unwrap_or}
-use Rattle.std.proofs.lemmas.Option.{same_Some}
 use Rattle.java_tree.specs.declared.tree.Name.{Name}
 use Rattle.java_tree.specs.Plain as t
 use Rattle.java_tree.specs.Plain.{TypeExpr, Expr, Param, Stmt, Stmts, SourceUnit}
@@ -29,7 +28,7 @@ use Rattle.decl_table.proofs.Places.{left}
 use Rattle.check_decl.proofs.Annotated.{Typed, Used, Says, SayAll}
 use Rattle.check_decl.proofs.Constructors.{NoConstructors, none_declared}
 use Rattle.check_decl.proofs.Starts.{arguments_of}
-use Rattle.check_decl.proofs.Steps.{steps_of_main}
+use Rattle.check_decl.proofs.Steps.{local_says, assign_says, call_says, steps_of_main}
 use Rattle.java_meaning.specs.Outcome.{Outcome, Gives, Threw, Bound, and_then, with_some, leave}
 use Rattle.java_meaning.specs.Meaning.{Place, Declared, bodies, variable, stored, value, allocated, called_on, invoked, all_statements, bound_to, enter}
 use Rattle.java_meaning.specs.Run.{main_number, run, start}
@@ -124,14 +123,14 @@ module _ (names : List (List ℕ)) (ts : List Tok) (u : SourceUnit) (tree : IsCl
       → Says names ts u (world_of u) g.notes ls (local_at names ts n i end init) → Fits (world_of u) s.heap s.frame n ls hs → slice_get s.heap 0 ≡ Some x → r.left ≤ d
       → Behind d (n + stmt_nodes (local_at names ts n i end init)) (scope_after u ls (local_at names ts n i end init)) xs
       → Meets (steps_run u (world_of u) pick (t.Then (local_at names ts n i end init) xs) hs r) (all_statements (place g d) (t.Then (local_at names ts n i end init) xs) (put s r))
-  local_meets n i end d init ls hs s r x xs (owner, is, fresh, e, init_is, c, has, below) fits there le next =
+  local_meets n i end d init ls hs s r x xs says fits there le next =
       let w : World = world_of u in
-      let has' = subst (λ e. HasClass (Typed g.notes) (Used g.notes) u w ls e c) (sym (same_Some init e init_is)) has in
+      let h = local_says (Typed g.notes) (Used g.notes) u w ls names ts n i end init says in
       let local : Local = local_of u (type_at names ts (n + 1) i 0) (record { node = node_of names ts (n + 2) (i + 1) end; name = name_at names ts (i + 1); dims = 0; init = Some init }) in
       met _ _ _ _ refl (then_then (value (place g d) init (put s r)) (λ a s. Gives tt (record s { frame = record { node = n + 2; value = a } ∷ s.frame })) (λ u s. all_statements (place g d) xs s))
-      (stores_meet init (name_at names ts (i + 1)) xs (n + 2) n (n + stmt_nodes (local_at names ts n i end init)) d c ls (local ∷ ls) hs s r x has' fits there le
-      (λ k q heap object under now. fits_declared w heap s.frame n (n + stmt_nodes (local_at names ts n i end init)) hs (name_at names ts (i + 1)) (n + 2) k q object ls local owner refl refl
-      (ap (λ o. ty.Class (unwrap_or o 0) []) is) (omega arith) (omega arith) (through under below) now)
+      (stores_meet init (name_at names ts (i + 1)) xs (n + 2) n (n + stmt_nodes (local_at names ts n i end init)) d h.right ls (local ∷ ls) hs s r x h.value fits there le
+      (λ k q heap object under now. fits_declared w heap s.frame n (n + stmt_nodes (local_at names ts n i end init)) hs (name_at names ts (i + 1)) (n + 2) k q object ls local h.left refl refl
+      (ap (λ o. ty.Class (unwrap_or o 0) []) h.left_is) (omega arith) (omega arith) (through under h.fits) now)
       next)
 
   -- x = ..;
@@ -139,18 +138,20 @@ module _ (names : List (List ℕ)) (ts : List Tok) (u : SourceUnit) (tree : IsCl
       → Says names ts u (world_of u) g.notes ls (assign_at names ts n i end from) → Fits (world_of u) s.heap s.frame n ls hs → slice_get s.heap 0 ≡ Some x → r.left ≤ d
       → Behind d (n + stmt_nodes (assign_at names ts n i end from)) (scope_after u ls (assign_at names ts n i end from)) xs
       → Meets (steps_run u (world_of u) pick (t.Then (assign_at names ts n i end from) xs) hs r) (all_statements (place g d) (t.Then (assign_at names ts n i end from) xs) (put s r))
-  assign_meets n i end d from ls hs s r x xs (owner, (l, found, of, typed_to, used), typed, c, has, below) fits there le next =
+  assign_meets n i end d from ls hs s r x xs says fits there le next =
       let w : World = world_of u in
+      let h = assign_says (Typed g.notes) (Used g.notes) u w ls names ts n i end from says in
+      let node : ℕ = h.to.local.node in
       let p : Place = place g d in
       let runs : all_statements p (t.Then (assign_at names ts n i end from) xs) (put s r)
-      ≡ and_then (value p from (put s r)) (λ a s. all_statements p xs (record s { frame = record { node = l.node; value = a } ∷ s.frame })) =
-      ap (λ o. and_then (and_then (with_some o (put s r) (λ u. and_then (value p from (put s r)) (λ a s. stored u a s))) (λ a s. Gives tt s)) (λ u s. all_statements p xs s)) used
-      ∙ ap (λ o. and_then o (λ u s. all_statements p xs s)) (then_then (value p from (put s r)) (λ a s. stored (use_of.Local l.node) a s) (λ a s. Gives tt s))
-      ∙ then_then (value p from (put s r)) (λ a s. Gives tt (record s { frame = record { node = l.node; value = a } ∷ s.frame })) (λ u s. all_statements p xs s) in
+      ≡ and_then (value p from (put s r)) (λ a s. all_statements p xs (record s { frame = record { node = node; value = a } ∷ s.frame })) =
+      ap (λ o. and_then (and_then (with_some o (put s r) (λ u. and_then (value p from (put s r)) (λ a s. stored u a s))) (λ a s. Gives tt s)) (λ u s. all_statements p xs s)) h.to.uses
+      ∙ ap (λ o. and_then o (λ u s. all_statements p xs s)) (then_then (value p from (put s r)) (λ a s. stored (use_of.Local node) a s) (λ a s. Gives tt s))
+      ∙ then_then (value p from (put s r)) (λ a s. Gives tt (record s { frame = record { node = node; value = a } ∷ s.frame })) (λ u s. all_statements p xs s) in
       met _ _ _ _ refl runs
-      (stores_meet from (name_at names ts i) xs l.node n (n + stmt_nodes (assign_at names ts n i end from)) d c ls ls hs s r x has fits there le
-      (λ k q heap object under now. fits_assigned w heap s.frame n (n + stmt_nodes (assign_at names ts n i end from)) hs (name_at names ts i) l.node k q object ls l owner found of refl
-      (omega arith) (through under below) now)
+      (stores_meet from (name_at names ts i) xs node n (n + stmt_nodes (assign_at names ts n i end from)) d h.right ls ls hs s r x h.value fits there le
+      (λ k q heap object under now. fits_assigned w heap s.frame n (n + stmt_nodes (assign_at names ts n i end from)) hs (name_at names ts i) node k q object ls h.to.local h.left h.to.found h.to.same refl
+      (omega arith) (through under h.fits) now)
       next)
 
   -- x.m();
@@ -158,11 +159,12 @@ module _ (names : List (List ℕ)) (ts : List Tok) (u : SourceUnit) (tree : IsCl
       → Fits (world_of u) s.heap s.frame n ls hs → slice_get s.heap 0 ≡ Some x → r.left ≤ d
       → Behind d (n + stmt_nodes (call_at names ts n i)) (scope_after u ls (call_at names ts n i)) xs
       → Meets (steps_run u (world_of u) pick (t.Then (call_at names ts n i) xs) hs r) (all_statements (place g d) (t.Then (call_at names ts n i) xs) (put s r))
-  calls_meet n i d ls hs s r x xs (owner, (local, local_is, of, typed, used_local), method, chosen, used) fits there le next =
+  calls_meet n i d ls hs s r x xs says fits there le next =
       let w : World = world_of u in
-      let object = fits.objects (name_at names ts i) local owner local_is of in
+      let h = call_says (Typed g.notes) (Used g.notes) u w ls names ts n i says in
+      let object = fits.objects (name_at names ts i) h.local h.owner h.found h.same in
       let m : Name = name_at names ts (i + 2) in
-      let e = entered w tree apart pick g.find picks lookups object.class owner m method object.fits chosen in
+      let e = entered w tree apart pick g.find picks lookups object.class h.owner m h.method object.fits h.chosen in
       let does = chosen_prints u g.notes all object.class m e.number e.chosen in
       let p : Place = place g d in
       let o : Value = v.Ref object.number in
@@ -170,15 +172,16 @@ module _ (names : List (List ℕ)) (ts : List Tok) (u : SourceUnit) (tree : IsCl
       let course : steps_run u w pick (t.Then (call_at names ts n i) xs) hs r ≡ enters e.number r (λ r. rest (record r { out = r.out ++ printed does.body })) =
       ap (λ o. goes_with o r (λ c. goes_with (pick c m) r (λ j. enters j r (λ r. rest (record r { out = r.out ++ lines u j }))))) object.known
       ∙ ap (λ o. goes_with o r (λ j. enters j r (λ r. rest (record r { out = r.out ++ lines u j })))) e.picked
-      ∙ ap (λ b. enters e.number r (λ r. rest (record r { out = r.out ++ body_lines b }))) does.there in
+      ∙ ap (λ b. enters e.number r (λ r. rest (record r { out = r.out ++ body_lines b }))) {y = Some (Declared [] does.body)} does.there in
       let finish : Outcome (Unit {0}) → Outcome (Unit {0}) = λ o. and_then o (λ u s. all_statements p xs s) in
       let runs : all_statements p (t.Then (call_at names ts n i) xs) (put s r) ≡ finish (enter g d e.number o [] (put s r)) =
-      ap (λ o. finish (and_then (with_some o (put s r) (λ u. variable u (put s r))) (λ r s. invoked p (g.notes.use_at (n + 1)) r [] s))) used_local
+      ap (λ o. finish (and_then (with_some o (put s r) (λ u. variable u (put s r))) (λ r s. invoked p (g.notes.use_at (n + 1)) r [] s))) h.uses_local
       ∙ ap (λ o. finish (and_then (with_some o (put s r) (λ a. Gives a (put s r))) (λ r s. invoked p (g.notes.use_at (n + 1)) r [] s))) object.holds
-      ∙ ap (λ q. finish (invoked p q o [] (put s r))) used
-      ∙ ap (λ q. finish (with_some q (put s r) (λ x. called_on p method o [] x (put s r)))) object.there
+      ∙ ap (λ q. finish (invoked p q o [] (put s r))) h.uses
+      ∙ ap (λ q. finish (with_some q (put s r) (λ x. called_on p h.method o [] x (put s r)))) object.there
       ∙ ap (λ q. finish (with_some q (put s r) (λ k. enter g d k o [] (put s r)))) e.found in
-      let in_unit : slice_get (bodies g.unit) e.number ≡ Some (Declared [] does.body) = ap (λ (u : SourceUnit). slice_get (bodies u) e.number) same ∙ does.there in
+      let in_unit : slice_get (bodies g.unit) e.number ≡ Some (Declared [] does.body) =
+      subst (λ (u : SourceUnit). slice_get (bodies u) e.number ≡ Some (Declared [] does.body)) (sym same) does.there in
       met _ _ _ _ course runs
       (call_meets g d e.number o s r x does.body le there in_unit does.prints (λ s. all_statements p xs s) rest
       (λ ss r le. next hs (record s { strings = ss }) r x (later w s.heap s.frame n (n + stmt_nodes (call_at names ts n i)) ls hs (omega arith) fits) there le))

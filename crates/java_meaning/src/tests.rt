@@ -5,9 +5,9 @@
 use crate::{End, Run, run_small};
 use check_decl::check_small;
 use decl_table::build_small;
+use java_tree::Names;
 use small_lexer::lex;
 use small_parser::parse_small;
-use java_tree::Names;
 use std::alloc::Global;
 use std::process::Abort;
 use std::test::Fail;
@@ -105,10 +105,10 @@ fn the_example_runs_as_far_as_its_bound(rt: HostRuntime) -> Result<(), Fail> {
 
 #[test]
 fn a_local_takes_the_object_of_another_or_a_new_one(rt: HostRuntime) -> Result<(), Fail> {
-    let made: &[u32] = &[7, 2, 4, 2, 6];
-    runs_so(&rt, rt.alloc(), ASSIGNED, 5, &[], made, End::AtBound)?;
+    runs_so(&rt, rt.alloc(), ASSIGNED, 2, &[], &[7, 2], End::AtBound)?;
+    let b: &[u16] = &[98, 10];
     let called: &[u32] = &[7, 2, 4, 2, 6, 4, 2, 3];
-    runs_so(&rt, rt.alloc(), ASSIGNED, 8, &[98, 10], called, End::AtBound)?;
+    runs_so(&rt, rt.alloc(), ASSIGNED, 8, b, called, End::AtBound)?;
     let out: &[u16] = &[98, 10, 99, 10, 97, 10];
     let all: &[u32] = &[7, 2, 4, 2, 6, 4, 2, 3, 5, 1];
     runs_so(&rt, rt.alloc(), ASSIGNED, 10, out, all, End::Normal)
