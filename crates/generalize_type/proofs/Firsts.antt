@@ -28,7 +28,7 @@ module _ {X : Type 0} (read : Stmt → Option X) where
   reads t.Last = []
   reads (t.Then x xs) = cons_option (read x) (reads xs)
 
-  reads_are : (xs : List declared.Stmt) → reads (stmts_plain xs) ≡ filter_map (λ s. read (stmt_plain s)) xs
+  pub reads_are : (xs : List declared.Stmt) → reads (stmts_plain xs) ≡ filter_map (λ s. read (stmt_plain s)) xs
   reads_are [] = refl
   reads_are (x ∷ xs) = ap (λ ys. cons_option (read (stmt_plain x)) ys) (reads_are xs)
 

@@ -1,4 +1,7 @@
 pub mod Firsts
+pub mod NameFlags
 pub mod Main
+pub mod MainUses
+pub mod Misfits
 pub mod Parts
 pub mod Types

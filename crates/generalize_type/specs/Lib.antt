@@ -1,3 +1,5 @@
+pub mod Fits
 pub mod Given
 pub mod Plans
 pub mod Steps
+pub mod Uses

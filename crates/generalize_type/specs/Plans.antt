@@ -1,15 +1,11 @@
 -- The edit that Generalize Declared Type makes at a place, where nothing stands against it.
 use Rattle.std.specs.Prelude.{◌≡◌, ℕ, List, Some, slice_get}
 use Rattle.java_tree.specs.declared.tree.Node.{Node}
-use Rattle.java_tree.specs.declared.tree.Name.{Name}
-use Rattle.java_tree.specs.Plain as t
 use Rattle.java_tree.specs.Plain.{SourceUnit}
 use Rattle.edit_writer.specs.declared.places.Place.{Place}
 use Rattle.class_world.specs.declared.world.World.{World}
 use Rattle.class_world.specs.declared.world.TypeInfo.{TypeInfo}
 use Rattle.class_world.specs.Subtypes.{IsBelow}
-use Rattle.class_world.specs.Members.{IsChosen}
-use Rattle.java_typing.specs.Main.{main_steps, HasStmt}
 use Rattle.constraint_terms.specs.Question.{Local, Declares, BeginsAt, CKind, IsUnmet, IsFirstUnmet, AreMet}
 use Rattle.generalize_type.specs.declared.small.SmallEdit.{SmallEdit}
 

@@ -1,5 +1,5 @@
--- The statements of a small program's main, by their parts: locals, and calls on names.
-use Rattle.std.specs.Prelude.{Bool, false, not, ◌&&◌, ◌==◌, List, ◌∷◌, Option, Some, None, slice_get, unwrap_or}
+-- The statements of a small program's main: locals, and nodes at which a constraint may be unmet.
+use Rattle.std.specs.Prelude.{List, ◌∷◌, Option, Some, None, ◌⊎◌}
 use Rattle.std.specs.List.{filter_map}
 use Rattle.java_tree.specs.declared.tree.Node.{Node}
 use Rattle.java_tree.specs.declared.tree.Name.{Name}
@@ -11,29 +11,16 @@ use Rattle.java_tree.specs.View.{stmt_plain}
 use Rattle.java_typing.specs.Main.{main_steps, HasStmt}
 use Rattle.constraint_terms.specs.Question.{Local, FlowsTo}
 use Rattle.generalize_type.specs.declared.small.MainLocal.{MainLocal}
-use Rattle.generalize_type.specs.declared.steps.WrittenLocal.{WrittenLocal}
-use Rattle.generalize_type.specs.declared.steps.WrittenCall.{WrittenCall}
+use Rattle.generalize_type.specs.declared.locals.WrittenLocal.{WrittenLocal}
 
 -- the local that a statement declares first
 abbrev pub written_local : Stmt → Option WrittenLocal
 written_local (t.Local n f (t.Written tn (head.Path (a ∷ names)) s args d) (v ∷ vs)) = Some (record { name = v.name; head = s; ty = a })
 written_local _ = None
 
--- the call on a name that a statement is
-abbrev pub written_call : Stmt → Option WrittenCall
-written_call (t.Value n (t.Call call (t.AnExpr (t.Name receiver x)) m args)) = Some (record { node = call; on = x; method = m })
-written_call _ = None
-
 -- of each statement in order
 abbrev pub locals_in : List declared.Stmt → List WrittenLocal
 locals_in xs = filter_map (λ s. written_local (stmt_plain s)) xs
-
-abbrev pub calls_in : List declared.Stmt → List WrittenCall
-calls_in xs = filter_map (λ s. written_call (stmt_plain s)) xs
-
--- whether a call is on the name, and of a method whose name has no flag
-abbrev pub is_unflagged : Name → List Bool → WrittenCall → Bool
-is_unflagged x flags c = (c.on.0 == x.0) && not (unwrap_or (slice_get flags c.method.0) false)
 
 -- main has this call on a name
 pub record HasCall (u : SourceUnit) (call : Node) : Type 0 where

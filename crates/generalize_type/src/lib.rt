@@ -1,8 +1,10 @@
 //! Generalize Declared Type.
 #![tactic(auto)]
 
+mod flags;
+mod locals;
 pub mod small;
-mod steps;
+mod uses;
 
 pub use small::{SmallAgainst, SmallEdit, generalize_small};
-pub use steps::call_start;
+pub use uses::start_of;

@@ -7,8 +7,11 @@ ghost use Rattle.constraint_terms.specs.Question.{Local, Declares, BeginsAt};
 ghost use Rattle.generalize_type.specs.Given.{IsGiven};
 ghost use Rattle.generalize_type.specs.Plans.{HasNoPlace, IsNotAbove, IsRefusedAt, IsPlan};
 ghost use Rattle.generalize_type.specs.Steps.{local_is};
+ghost use Rattle.constraint_terms.specs.Question as kind;
 
-use crate::steps::{first_unflagged, local_at, steps_of};
+use crate::flags::misfits_of;
+use crate::locals::{local_at, steps_of};
+use crate::uses::{UseKind, first_unmet};
 use class_world::{World, is_below, member_names};
 use edit_writer::{Place, offset_at};
 use java_tree::tree::{Name, SourceUnit, Span};
@@ -69,10 +72,11 @@ struct MainLocal {
 }
 
 /// The edit that gives the local of main whose declared type begins at a line and column, both from 1 and in bytes, the type
-/// numbered `target` in its place (JLS 14.4). Each call on the local must then choose a method of the new type (JLS 15.12.2).
+/// numbered `target` in its place (JLS 14.4). Each call on the local must then choose a method of the new type (JLS 15.12.2), and
+/// where the local's value goes to another local, the new type must be below that one's (JLS 14.4.2 and 15.26).
 ///
-/// `V(1)`: no local's type begins there. `V(3)`: the new type is not properly above the local's (JLS 4.10.2). `Member`: the
-/// node number of the first call on the local that chooses no method of the new type.
+/// `V(1)`: no local's type begins there. `V(3)`: the new type is not properly above the local's (JLS 4.10.2). `Member` and
+/// `Assign`: the node number of the first call or value of which that does not hold, in the order of the text.
 pub fn generalize_small(
     alloc: Global,
     text: &[u8],
@@ -102,8 +106,12 @@ pub fn generalize_small(
         return Err(NOT_ABOVE);
     }
     let members = member_names(alloc, w, target, names.len())?;
-    if let Some(call) = first_unflagged(steps_of(unit), local.name, &members) {
-        return Err(SmallAgainst::Member(call.node.id));
+    let misfits = misfits_of(alloc, unit, names, w, target)?;
+    if let Some(unmet) = first_unmet(steps_of(unit), local.name, &members, &misfits) {
+        return Err(match unmet.kind {
+            UseKind::Call(_) => SmallAgainst::Member(unmet.node.id),
+            UseKind::Flow(_) => SmallAgainst::Assign(unmet.node.id),
+        });
     }
     let name = names.text(w.types.as_slice()[target as usize].name);
     Ok(SmallEdit {

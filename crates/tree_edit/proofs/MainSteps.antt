@@ -203,6 +203,44 @@ module _ (names : List (List ℕ)) (ts : List Tok) where
   step_node n x i j (inr (inl h)) = (ap (λ x. (stmt_root x).id) h.tree, ap (λ x. (stmt_root x).span.from) h.tree ∙ begins ts i (h.end + 1))
   step_node n x i j (inr (inr (stand, tree, next))) = (ap (λ x. (stmt_root x).id) tree, ap (λ x. (stmt_root x).span.from) tree ∙ begins ts i (i + 6))
 
+  -- from a number on
+  numbered_from : (xs : Stmts) (n i j : ℕ) → AreSteps names ts n xs i j → (x : Stmt) → HasStmt xs x → n ≤ (stmt_root x).id
+  numbered_from t.Last n i j h x has = absurd has
+  numbered_from (t.Then y ys) n i j (m, step, rest) x (inl same) =
+      let node = step_node n y i m step in
+      let id = ap (λ x. (stmt_root x).id) same in
+      omega arith
+  numbered_from (t.Then y ys) n i j (m, step, rest) x (inr has) =
+      let on = numbered_from ys (n + stmt_nodes y) m j rest x has in
+      omega arith
+
+  apart : (xs : Stmts) (n i j : ℕ) → AreSteps names ts n xs i j → (x y : Stmt) → HasStmt xs x → HasStmt xs y → (stmt_root x).id < (stmt_root y).id
+      → (stmt_root x).id + stmt_nodes x ≤ (stmt_root y).id
+  apart t.Last n i j h x y has has' lt = absurd has
+  apart (t.Then z zs) n i j (m, step, rest) x y (inl first) (inl first') lt =
+      let same = ap (λ x. (stmt_root x).id) (sym first ∙ first') in
+      absurd (omega arith)
+  apart (t.Then z zs) n i j (m, step, rest) x y (inl first) (inr has') lt =
+      let node = step_node n z i m step in
+      let on = numbered_from zs (n + stmt_nodes z) m j rest y has' in
+      let id = ap (λ x. (stmt_root x).id) first in
+      let nodes = ap stmt_nodes first in
+      omega arith
+  apart (t.Then z zs) n i j (m, step, rest) x y (inr has) (inl first') lt =
+      let node = step_node n z i m step in
+      let on = numbered_from zs (n + stmt_nodes z) m j rest x has in
+      let id = ap (λ x. (stmt_root x).id) first' in
+      absurd (omega arith)
+  apart (t.Then z zs) n i j (m, step, rest) x y (inr has) (inr has') lt = apart zs (n + stmt_nodes z) m j rest x y has has' lt
+
+  -- a statement owns the numbers from its own to before those of a later one
+  pub nodes_apart : (u : SourceUnit) → Spells names ts u → (x y : Stmt) → HasStmt (main_steps u) x → HasStmt (main_steps u) y → (stmt_root x).id < (stmt_root y).id
+      → (stmt_root x).id + stmt_nodes x ≤ (stmt_root y).id
+  nodes_apart u h x y has has' lt =
+      let main = main_is u h in
+      let among : (x : Stmt) → HasStmt (main_steps u) x → HasStmt main.is.body x = λ x has. subst (λ xs. HasStmt xs x) (main_body u main) has in
+      apart main.is.body (main.number + 5) (main.place + 14) main.is.end main.is.steps x y (among x has) (among y has') lt
+
   module _ (order : InOrder ts) where
     are_behind : (xs : Stmts) (n i j : ℕ) → AreSteps names ts n xs i j → (a : Node) → a.id < n
         → ((p : ℕ) → i ≤ p → p < length ts → a.span.from < from_at ts p) → AreBehind a xs

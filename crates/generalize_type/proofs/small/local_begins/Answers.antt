@@ -17,7 +17,7 @@ returns-in_err-local-clause-none c = λ names given. rw c.from_residual-in_err-l
     let at = declared_there names _ _ _ given x d in
     let from = c.in_ok-from.ensures.alone x.head.from (head_within names _ _ _ given x d) begins in
     none written_local (λ x. x.head.from == c.in_ok-from.from) c.steps_of.result.now (main_steps (unit_plain c.args.unit.now)) c.steps_of.ensures c.in_err-local.ensures
-    at.0 at.1 at.2 at.3 (is_number _ _ (ap (λ (s : Span). s.from) at.4 ∙ from)))
+    at.stmt at.local at.has at.is (is_number _ _ (ap (λ (s : Span). s.from) at.head ∙ from)))
 
 pub returns-in_err-type_called-clause-none : goal.returns-in_err-type_called-clause-none
 returns-in_err-type_called-clause-none c = λ names given.

@@ -1,7 +1,7 @@
 use Rattle.std.proofs.Common.{◌∙◌, sym, ap}
 use Rattle.std.specs.Option.{option_copied}
 use Rattle.generalize_type.proofs.Parts.{local_none, local_some}
-use Rattle.generalize_type.proofs.steps.local_of.Goals as goal
+use Rattle.generalize_type.proofs.locals.local_of.Goals as goal
 
 pub returns-in_err-get : goal.returns-in_err-get
 returns-in_err-get c =
