@@ -124,6 +124,11 @@ module _ (text : List ℕ) (s : Small) (is : IsProgramOf text s) where
         let un = r.first.0 in
         inr (un.to.name, r.x.name, un.flows)
 
+    -- what was said of the place that the request has
+    pub at_asked : (kind : CKind) (n : ℕ) (at : Place) → at ≡ asked q → plans.IsRefusedAt s.names text (unit_plain s.unit) s.declared.world at target kind n
+        → plans.IsRefusedAt s.names text (unit_plain s.unit) s.declared.world (asked q) target kind n
+    at_asked kind n at same r = subst (λ (p : Place). plans.IsRefusedAt s.names text (unit_plain s.unit) s.declared.world p target kind n) same r
+
     pub planned : (e : SmallEdit) → IsIdentifier q.ty → plans.IsPlan s.names text (unit_plain s.unit) s.declared.world (asked q) target e → IsPlanned q text e
     planned e word plan = record {
       program = program_of s.names is.0 s.unit;

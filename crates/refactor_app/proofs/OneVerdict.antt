@@ -19,7 +19,7 @@ use Rattle.java_typing.specs.Typing.{step_type}
 use Rattle.constraint_terms.specs.Question.{Local, Declares, CKind, IsUnmet, IsFirstUnmet}
 use Rattle.tree_edit.specs.Order.{InOrder}
 use Rattle.tree_edit.proofs.MainSteps.{local_token, one_local}
-use Rattle.generalize_type.proofs.Main.{one_unmet}
+use Rattle.generalize_type.proofs.OneUse.{one_unmet}
 use Rattle.report_text.specs.Report.{refused, refused_at}
 use Rattle.refactor_app.specs.Words.{Request}
 use Rattle.refactor_app.specs.Program.{Program, IsSmall, IsTypeNamed}
@@ -85,7 +85,7 @@ module _ (text : List ℕ) (p : Program) (small : IsSmall text p) where
   one_first x target kind kind' n m a b =
       let low = a.1 kind' m b.0 in
       let high = b.1 kind n a.0 in
-      one_unmet p.names p.toks p.unit order small.read.spells (world_of p.unit) x target kind kind' n m a.0 b.0 (omega (arith, low, high))
+      one_unmet p.names p.toks order p.unit small.read.spells (world_of p.unit) x target kind kind' n m a.0 b.0 (omega (arith, low, high))
 
 -- ---- verdicts of one program and one type
 
