@@ -18,13 +18,13 @@ class Case(NamedTuple):
     kind: str
 
 
-def make_case(chance, whole):
+def make_case(chance):
     """One case, from a source of chance alone."""
     way = pick(chance, [
         (46, right_case), (20, spoiled_case), (7, token_case), (8, byte_case), (1.5, junk_case), (12, words_case),
         (5, folder_case), (1, full_case), (0.5, large_case),
     ])
-    return way(chance, whole)
+    return way(chance)
 
 
 def pick(chance, weighted):
@@ -32,28 +32,28 @@ def pick(chance, weighted):
     return chance.choices([thing for _, thing in weighted], [weight for weight, _ in weighted])[0]
 
 
-def right_case(chance, whole):
-    text, places = lay_out(chance, tokens_of(program := make_program(chance, whole)))
+def right_case(chance):
+    text, places = lay_out(chance, tokens_of(program := make_program(chance)))
     return simple_case(chance, aim(chance, program, text, places), text, "right program")
 
 
-def spoiled_case(chance, whole):
-    program = make_program(chance, whole)
+def spoiled_case(chance):
+    program = make_program(chance)
     spoil = pick(chance, SPOILS)
     spoil(chance, program)
     text, places = lay_out(chance, tokens_of(program))
     return simple_case(chance, aim(chance, program, text, places), text, "spoiled program: " + spoil.__name__)
 
 
-def token_case(chance, whole):
-    program = make_program(chance, whole)
+def token_case(chance):
+    program = make_program(chance)
     damage = pick(chance, TOKEN_DAMAGES)
     text, places = lay_out(chance, damage(chance, tokens_of(program)))
     return simple_case(chance, aim(chance, program, text, places), text, "damaged tokens: " + damage.__name__)
 
 
-def byte_case(chance, whole):
-    program = make_program(chance, whole)
+def byte_case(chance):
+    program = make_program(chance)
     text, places = lay_out(chance, tokens_of(program))
     damage = pick(chance, BYTE_DAMAGES)
     damaged = damage(chance, text)
@@ -61,14 +61,14 @@ def byte_case(chance, whole):
     return simple_case(chance, words, damaged, "damaged bytes: " + damage.__name__)
 
 
-def junk_case(chance, whole):
+def junk_case(chance):
     junk = pick(chance, JUNK)
     words = Words(odd_part(chance), odd_part(chance), "1", "1", "A")
     return simple_case(chance, words, junk(chance), "no program: " + junk.__name__)
 
 
-def words_case(chance, whole):
-    program = make_program(chance, whole)
+def words_case(chance):
+    program = make_program(chance)
     text, places = lay_out(chance, tokens_of(program))
     right = aim(chance, program, text, places)
     damage = pick(chance, WORD_DAMAGES)
@@ -77,21 +77,21 @@ def words_case(chance, whole):
     return Case(words, files, [], False, "damaged words: " + damage.__name__)
 
 
-def folder_case(chance, whole):
-    program = make_program(chance, whole)
+def folder_case(chance):
+    program = make_program(chance)
     text, places = lay_out(chance, tokens_of(program))
     change = pick(chance, FOLDER_CHANGES)
     words, files, folders = change(chance, aim(chance, program, text, places), text)
     return Case([encode(word) for word in words.all()], files, folders, False, "folder: " + change.__name__)
 
 
-def full_case(chance, whole):
+def full_case(chance):
     way = chance.choice([right_case, right_case, spoiled_case, words_case, folder_case])
-    case = way(chance, whole)
+    case = way(chance)
     return case._replace(full=True, kind="standard output is full, " + case.kind)
 
 
-def large_case(chance, whole):
+def large_case(chance):
     make = pick(chance, LARGE)
     words, text = make(chance)
     return simple_case(chance, words, text, "large file: " + make.__name__)
@@ -191,7 +191,7 @@ def make_name(chance, taken):
             return name
 
 
-def make_program(chance, whole):
+def make_program(chance):
     """A small program: classes, then the class of main. It breaks no rule."""
     names = []
     for _ in range(pick(chance, [(1, 0), (3, 1), (6, 2), (8, 3), (8, 4), (5, 6), (3, 9), (1, 25)])):
@@ -206,7 +206,7 @@ def make_program(chance, whole):
     parameter = chance.choice(["args", "a", "s", "x", "String", "A", "main", "_"])
     main = make_name(chance, set(names) | TAKEN_BY_TYPES)
     program = Program(classes, main, parameter, [])
-    make_steps(chance, program, whole)
+    make_steps(chance, program)
     return program
 
 
@@ -222,22 +222,22 @@ def make_string(chance):
     return "".join(chr(chance.choice(allowed)) for _ in range(chance.randint(0, 12)))
 
 
-def make_steps(chance, program, whole):
+def make_steps(chance, program):
     """Steps that break no rule: each local before its use, each value below the local's type."""
     for _ in range(pick(chance, [(1, 0), (4, 2), (8, 4), (8, 7), (4, 14), (1, 40)])):
         way = chance.random()
         if way < 0.4 or not program.declared():
-            declare(chance, program, whole)
-        elif way < 0.75 or not whole:
+            declare(chance, program)
+        elif way < 0.75:
             call(chance, program)
         else:
             assign(chance, program)
 
 
-def declare(chance, program, whole):
+def declare(chance, program):
     names = [each.name for each in program.classes]
     created = chance.choice(names) if names and chance.random() < 0.95 else "Object"
-    sources = program.declared() if whole and chance.random() < 0.5 else []
+    sources = program.declared() if chance.random() < 0.5 else []
     value = ("new", created)
     if sources:
         source, created = chance.choice(sources)

@@ -47,7 +47,7 @@ class Answer(NamedTuple):
     why: str = ""
 
 
-def answer(words, files, folders, whole):
+def answer(words, files, folders):
     """The answer to `words`, a list of bytes, where `files` maps names to bytes and `folders` lists folders."""
     try:
         words = [word.decode("utf-8") for word in words]
@@ -62,7 +62,7 @@ def answer(words, files, folders, whole):
         return Answer("missing", MISSING, b"missing %s\n" % request.file.encode(), {})
     text = files[request.file]
     try:
-        program = read_program(text, whole)
+        program = read_program(text)
         require_target(program, request.target)
     except NotSmall as reason:
         return refused("N2", "-", str(reason))
@@ -332,11 +332,9 @@ class Parser:
         self.next += 1
 
 
-def read_program(text, whole):
+def read_program(text):
     """The small program that a file is; NotSmall where it is none."""
     program = Parser(read_tokens(text)).program()
-    if not whole:
-        require_thin_steps(program)
     require_sizes(program)
     require_type_names(program)
     require_method_names(program)
@@ -348,13 +346,6 @@ def read_program(text, whole):
 def require(condition, why):
     if not condition:
         raise NotSmall(why)
-
-
-def require_thin_steps(program):
-    """The thin run knows `Type name = new Type();` and `name.method();` alone."""
-    for step in program.steps:
-        require(not isinstance(step, Assign), "an assignment, which is not yet built")
-        require(isinstance(step, Call) or isinstance(step.value, New), "a local as a value, which is not yet built")
 
 
 def require_sizes(program):

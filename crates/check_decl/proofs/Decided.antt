@@ -13,30 +13,29 @@ use Rattle.java_tree.specs.Plain.{TypeExpr, Expr, Stmt, Stmts, Var, SourceUnit}
 use Rattle.java_tree.specs.View.{var_plain, stmt_plain, stmts_plain}
 use Rattle.java_tree.specs.declared.fault.NoMemory.{NoMemory}
 use Rattle.class_world.specs.declared.world.World.{World}
-use Rattle.class_world.specs.declared.world.JavaType.{JavaType}
 use Rattle.class_world.specs.declared.world.JavaType.TheVariants as ty
 use Rattle.class_world.specs.Subtypes.{Subtype}
 use Rattle.java_typing.specs.Typing.{Local, find_local, step_type, local_of, scope_after}
 use Rattle.check_decl.specs.declared.scope.Scope.{Scope}
-use Rattle.check_decl.specs.declared.scope.Binding.{Binding}
 use Rattle.check_decl.specs.declared.scope.Binding.TheVariants as binding
 use Rattle.check_decl.specs.Scopes.{Describes, Binds}
-use Rattle.check_decl.specs.Holds.{StepHolds, AllHold, IsOfType, IsValueOf, Decides}
+use Rattle.check_decl.specs.Holds.{StepHolds, AllHold, IsOfClass, IsClassOf, Decides}
 
 module _ (u : SourceUnit) (w : World) (ls : List Local) where
-  module _ (n : Node) (f : Bool) (x : TypeExpr) (v : Var) (c : ℕ) (e : Expr) (b : Binding) (fits : Bool) (class : step_type u x ≡ Some c) (init : v.init ≡ Some e)
-      (value : IsValueOf u w ls e (Some b)) (below : (a : JavaType) → Describes b a → IsTrue fits ↔ Subtype w a (ty.Class c [])) where
+  module _ (n : Node) (f : Bool) (x : TypeExpr) (v : Var) (c d : ℕ) (e : Expr) (fits : Bool) (class : step_type u x ≡ Some c) (init : v.init ≡ Some e)
+      (value : IsClassOf u w ls e (Some d)) (below : IsTrue fits ↔ Subtype w (ty.Class d []) (ty.Class c [])) where
     -- a local that is right is initialised with something that fits, and its name is new
     local_fits : StepHolds u w ls (t.Local n f x (v ∷ [])) → IsTrue fits × (find_local ls v.name ≡ None)
     local_fits h =
         let same_init : h.3 ≡ e = same_Some h.3 e (sym h.4 ∙ init) in
         let same_class : h.0 ≡ c = same_Some h.0 c (sym h.1 ∙ class) in
-        let same_type : h.5 ≡ value.0 = value.3 h.5 (subst (λ e. IsOfType u w ls e h.5) same_init h.6) in
-        let low : Subtype w value.0 (ty.Class c []) = subst (λ a. Subtype w a (ty.Class c [])) same_type (subst (λ c. Subtype w h.5 (ty.Class c [])) same_class h.7) in
-        ((below value.0 value.1).1 low, h.2)
+        let same_value : h.5 ≡ d = value.1 h.5 (subst (λ e. IsOfClass u w ls e h.5) same_init h.6) in
+        let low : Subtype w (ty.Class d []) (ty.Class c []) =
+        subst (λ d. Subtype w (ty.Class d []) (ty.Class c [])) same_value (subst (λ c. Subtype w (ty.Class h.5 []) (ty.Class c [])) same_class h.7) in
+        (below.1 low, h.2)
 
     fitting : IsTrue fits → find_local ls v.name ≡ None → StepHolds u w ls (t.Local n f x (v ∷ []))
-    fitting yes_it_fits fresh = (c, class, fresh, e, init, value.0, value.2, (below value.0 value.1).0 yes_it_fits)
+    fitting yes_it_fits fresh = (c, class, fresh, e, init, d, value.0, below.0 yes_it_fits)
 
     pub local_refused : fits ≡ false → StepHolds u w ls (t.Local n f x (v ∷ [])) → IsTrue false
     local_refused no_fit h = sym no_fit ∙ (local_fits h).0

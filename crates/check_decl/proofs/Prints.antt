@@ -12,7 +12,7 @@ use Rattle.class_world.specs.declared.world.JavaType.TheVariants as ty
 use Rattle.java_typing.specs.declared.table.Use.{Use}
 use Rattle.java_typing.specs.Main.{last_type, before_last, main_method, main_steps, params_of, statements}
 use Rattle.java_typing.specs.Typing.{Local, Annotation, Annotates, StepsHold, IsPrintTyped, ArePrintsTyped, AreBodiesTyped, AreClassesTyped, AreTyped, params_in}
-use Rattle.check_decl.proofs.Annotated.{put, put_here, put_else, Keeps, Typed, SayAll, all_kept, all_annotated, free, unused}
+use Rattle.check_decl.proofs.Annotated.{put, put_here, put_else, Keeps, same_tables, later, then_keeps, Typed, SayAll, all_kept, all_annotated, free, unused}
 use Rattle.check_decl.specs.Agreement.{AgreeOnPrint, AgreeOnPrints, AgreeOnBodies, AgreeOnClasses}
 
 abbrev Unused : Annotation → ℕ → Type 0
@@ -28,18 +28,6 @@ without_here k f = grind (arith, nat_tests)
 without_else : {A : Type 0} (k : ℕ) (f : ℕ → Option A) (m : ℕ) → (m ≡ k → ⊥) → without k f m ≡ f m
 without_else k f m h = grind (arith, nat_tests)
 
-same_tables : (n : ℕ) (a : Annotation) → Keeps n a a
-same_tables n a = record { types = λ m l. refl; uses = λ m l. refl }
-
-then_keeps : (n k : ℕ) (a b c : Annotation) → k ≤ n → Keeps n a b → Keeps k b c → Keeps n a c
-then_keeps n k a b c le first second = record {
-  types = λ m l. second.types m (omega arith) ∙ first.types m l;
-  uses = λ m l. second.uses m (omega arith) ∙ first.uses m l;
-}
-
-after : (n k : ℕ) (a b : Annotation) → n ≤ k → Keeps n a b → Keeps k a b
-after n k a b le h = record { types = λ m l. h.types m (omega arith); uses = λ m l. h.uses m (omega arith) }
-
 module _ (names : List (List ℕ)) (ts : List Tok) where
   -- ---- what is said of nodes from n on stays
 
@@ -50,29 +38,29 @@ module _ (names : List (List ℕ)) (ts : List Tok) where
 
   prints_kept : (xs : Stmts) (n i j : ℕ) (a b : Annotation) → ArePrints names ts n xs i j → Keeps n a b → ArePrintsTyped (Typed a) (Unused a) xs → ArePrintsTyped (Typed b) (Unused b) xs
   prints_kept t.Last n i j a b p k h = tt
-  prints_kept (t.Then x xs) n i j a b (p, ps) k (h, hs) = (print_kept x n i a b p k h, prints_kept xs (n + 5) (i + 9) j a b ps (after n (n + 5) a b (omega arith) k) hs)
+  prints_kept (t.Then x xs) n i j a b (p, ps) k (h, hs) = (print_kept x n i a b p k h, prints_kept xs (n + 5) (i + 9) j a b ps (later n (n + 5) a b (omega arith) k) hs)
 
   bodies_kept : (xs : List Member) (n i j : ℕ) (a b : Annotation) → AreMethods names ts n xs i j → Keeps n a b → AreBodiesTyped (Typed a) (Unused a) xs → AreBodiesTyped (Typed b) (Unused b) xs
   bodies_kept [] n i j a b p k h = tt
   bodies_kept (x ∷ xs) n i j a b (m, p, ps) k h =
       let both = subst (λ (x : Member). AreBodiesTyped (Typed a) (Unused a) (x ∷ xs)) p.tree h in
-      let first = prints_kept p.body (n + 2) (i + 5) p.end a b p.prints (after n (n + 2) a b (omega arith) k) both.0 in
-      let rest = bodies_kept xs (n + member_nodes x) m j a b ps (after n (n + member_nodes x) a b (omega arith) k) both.1 in
+      let first = prints_kept p.body (n + 2) (i + 5) p.end a b p.prints (later n (n + 2) a b (omega arith) k) both.0 in
+      let rest = bodies_kept xs (n + member_nodes x) m j a b ps (later n (n + member_nodes x) a b (omega arith) k) both.1 in
       subst (λ (x : Member). AreBodiesTyped (Typed b) (Unused b) (x ∷ xs)) (sym p.tree) (first, rest)
 
   class_kept : (d : TypeDecl) (n i j : ℕ) (a b : Annotation) → IsClass names ts n d i j → Keeps n a b → AreBodiesTyped (Typed a) (Unused a) d.members → AreBodiesTyped (Typed b) (Unused b) d.members
   class_kept d n i j a b (inl p) k h =
       let same = ap (λ (d : TypeDecl). d.members) p.tree in
-      subst (AreBodiesTyped (Typed b) (Unused b)) (sym same) (bodies_kept p.members (n + 1) (i + 3) p.end a b p.methods (after n (n + 1) a b (omega arith) k) (subst (AreBodiesTyped (Typed a) (Unused a)) same h))
+      subst (AreBodiesTyped (Typed b) (Unused b)) (sym same) (bodies_kept p.members (n + 1) (i + 3) p.end a b p.methods (later n (n + 1) a b (omega arith) k) (subst (AreBodiesTyped (Typed a) (Unused a)) same h))
   class_kept d n i j a b (inr p) k h =
       let same = ap (λ (d : TypeDecl). d.members) p.tree in
-      subst (AreBodiesTyped (Typed b) (Unused b)) (sym same) (bodies_kept p.members (n + 2) (i + 5) p.end a b p.methods (after n (n + 2) a b (omega arith) k) (subst (AreBodiesTyped (Typed a) (Unused a)) same h))
+      subst (AreBodiesTyped (Typed b) (Unused b)) (sym same) (bodies_kept p.members (n + 2) (i + 5) p.end a b p.methods (later n (n + 2) a b (omega arith) k) (subst (AreBodiesTyped (Typed a) (Unused a)) same h))
 
   classes_kept : (ds : List TypeDecl) (n i j : ℕ) (a b : Annotation) → AreTypes names ts n ds i j → Keeps n a b → AreClassesTyped (Typed a) (Unused a) (before_last ds) → AreClassesTyped (Typed b) (Unused b) (before_last ds)
   classes_kept [] n i j a b p k h = tt
   classes_kept (d ∷ []) n i j a b p k h = tt
   classes_kept (d ∷ e ∷ ds) n i j a b (m, p, ps) k (h, hs) =
-      (class_kept d n i m a b p k h, classes_kept (e ∷ ds) (n + decl_nodes d) m j a b ps (after n (n + decl_nodes d) a b (omega arith) k) hs)
+      (class_kept d n i m a b p k h, classes_kept (e ∷ ds) (n + decl_nodes d) m j a b ps (later n (n + decl_nodes d) a b (omega arith) k) hs)
 
   -- ---- an annotation with entries for nodes before those of another
 
@@ -103,7 +91,7 @@ module _ (names : List (List ℕ)) (ts : List Tok) where
       let rest = with_bodies xs (n + member_nodes x) m j b ps in
       let first = with_prints p.body (n + 2) (i + 5) p.end rest.0 p.prints in
       let count : member_nodes x ≡ 1 + (1 + stmts_nodes p.body) = ap member_nodes p.tree in
-      let keeps : Keeps (n + member_nodes x) rest.0 first.0 = after (n + 2 + stmts_nodes p.body) (n + member_nodes x) rest.0 first.0 (omega (arith, count)) first.2 in
+      let keeps : Keeps (n + member_nodes x) rest.0 first.0 = later (n + 2 + stmts_nodes p.body) (n + member_nodes x) rest.0 first.0 (omega (arith, count)) first.2 in
       let more = bodies_kept xs (n + member_nodes x) m j rest.0 first.0 ps keeps rest.1 in
       let all = subst (λ (x : Member). AreBodiesTyped (Typed first.0) (Unused first.0) (x ∷ xs)) (sym p.tree) (first.1, more) in
       let end : n + member_nodes x + members_nodes xs ≡ n + (member_nodes x + members_nodes xs) = omega arith in
@@ -114,12 +102,12 @@ module _ (names : List (List ℕ)) (ts : List Tok) where
       let same = ap (λ (d : TypeDecl). d.members) p.tree in
       let all = with_bodies p.members (n + 1) (i + 3) p.end b p.methods in
       let count = ap decl_nodes p.tree in
-      (all.0, subst (AreBodiesTyped (Typed all.0) (Unused all.0)) (sym same) all.1, after (n + 1 + members_nodes p.members) (n + decl_nodes d) b all.0 (omega (arith, count)) all.2)
+      (all.0, subst (AreBodiesTyped (Typed all.0) (Unused all.0)) (sym same) all.1, later (n + 1 + members_nodes p.members) (n + decl_nodes d) b all.0 (omega (arith, count)) all.2)
   with_class d n i j b (inr p) =
       let same = ap (λ (d : TypeDecl). d.members) p.tree in
       let all = with_bodies p.members (n + 2) (i + 5) p.end b p.methods in
       let count = ap decl_nodes p.tree in
-      (all.0, subst (AreBodiesTyped (Typed all.0) (Unused all.0)) (sym same) all.1, after (n + 2 + members_nodes p.members) (n + decl_nodes d) b all.0 (omega (arith, count)) all.2)
+      (all.0, subst (AreBodiesTyped (Typed all.0) (Unused all.0)) (sym same) all.1, later (n + 2 + members_nodes p.members) (n + decl_nodes d) b all.0 (omega (arith, count)) all.2)
 
   -- the class with main, behind the others
   record HasMain (ds : List TypeDecl) (n : ℕ) : Type 0 where
@@ -161,7 +149,7 @@ module _ (names : List (List ℕ)) (ts : List Tok) where
       let start : List Local = params_in free unused u w (params_of (main_method u)) in
       let steps = all_annotated names ts u w main.is.body (main.number + 5) (main.from + 14) main.is.end start main.is.steps (subst (AreTyped free unused u w start) body h) in
       let all = with_classes s.types 1 0 (length ts) steps.0 s.are in
-      let keeps = after main.number (main.number + 5) steps.0 all.0 (omega arith) all.2 in
+      let keeps = later main.number (main.number + 5) steps.0 all.0 (omega arith) all.2 in
       let said = all_kept names ts u w main.is.body (main.number + 5) (main.from + 14) main.is.end start steps.0 all.0 main.is.steps keeps steps.1 in
       let types : s.types ≡ u.types = ap (λ (u : SourceUnit). u.types) (sym s.tree) in
       (all.0, (subst (SayAll names ts u w all.0 start) (sym body) said, subst (λ (ds : List TypeDecl). AreClassesTyped (Typed all.0) (Unused all.0) (before_last ds)) types all.1))

@@ -1,20 +1,20 @@
 -- Main's statements in a small program, and what the typing of each says.
-use Rattle.std.proofs.Common.{◌≡◌, ℕ, ◌+◌, List, [], ◌∷◌, length, Some, None, refl, sym, subst}
+use Rattle.std.proofs.Common.{◌≡◌, ℕ, ◌+◌, List, [], ◌∷◌, length, Some, None, refl, ap, sym, ◌∙◌, subst}
 use Rattle.std.proofs.lemmas.Option.{same_Some}
 use Rattle.java_tree.specs.declared.tree.Name.{Name}
-use Rattle.java_tree.specs.Plain as t
-use Rattle.java_tree.specs.Plain.{TypeExpr, Expr, Stmt, Stmts, TypeDecl, SourceUnit}
+use Rattle.java_tree.specs.Plain.{TypeExpr, Expr, Stmts, TypeDecl, SourceUnit}
 use Rattle.small_lexer.specs.declared.token.Tok.{Tok}
-use Rattle.small_parser.specs.Grammar.{AreTypes, IsMain, AreSteps, Spells, local_at, call_at, name_at, type_at, node_of}
+use Rattle.small_parser.specs.Grammar.{AreTypes, IsMain, AreSteps, Spells, local_at, assign_at, call_at, new_at, name_expr, name_at, type_at}
 use Rattle.class_world.specs.declared.world.World.{World}
 use Rattle.class_world.specs.declared.world.JavaType.{JavaType}
 use Rattle.class_world.specs.declared.world.JavaType.TheVariants as ty
 use Rattle.class_world.specs.Subtypes.{Subtype}
 use Rattle.class_world.specs.Members.{IsChosen}
+use Rattle.class_world.proofs.Chains.{same_number}
 use Rattle.java_typing.specs.declared.table.Use.{Use}
 use Rattle.java_typing.specs.declared.table.Use.TheVariants as use_of
 use Rattle.java_typing.specs.Main.{main_steps, last_type}
-use Rattle.java_typing.specs.Typing.{Local, find_local, step_type, IsConstructor, IsStmtTyped, HasType}
+use Rattle.java_typing.specs.Typing.{Local, find_local, step_type, IsConstructor, IsStmtTyped, HasClass}
 
 module _ (names : List (List ℕ)) (ts : List Tok) where
   -- the last type of a small file is the class with main
@@ -44,17 +44,38 @@ module _ (names : List (List ℕ)) (ts : List Tok) where
       subst (λ xs. HasSteps xs) (sym same) (record { node = _; from = _; to = _; steps = m.steps })
 
 module _ (typed : ℕ → JavaType → Type 0) (used : ℕ → Use → Type 0) (u : SourceUnit) (w : World) (ls : List Local) where
-  -- what the typing of `A x = new B();` says, n being the node of the creation
-  pub record LocalSays (x : TypeExpr) (v : Name) (y : TypeExpr) (n : ℕ) : Type 0 where
+  -- what the typing of `new B()` says, n being its node and c its class
+  pub record NewSays (x : TypeExpr) (n c : ℕ) : Type 0 where
+    pub class_is : step_type u x ≡ Some c
+    pub has : typed n (ty.Class c [])
+    pub constructor : ℕ
+    pub is_constructor : IsConstructor w c constructor
+    pub uses : used n (use_of.Method constructor)
+
+  -- what the typing of a name says, n being its node and c the class of what it gives
+  pub record NameSays (x : Name) (n c : ℕ) : Type 0 where
+    pub local : Local
+    pub found : find_local ls x ≡ Some local
+    pub same : ty.Class c [] ≡ local.ty
+    pub has : typed n (ty.Class c [])
+    pub uses : used n (use_of.Local local.node)
+
+  -- what the typing of `A x = e;` says
+  pub record LocalSays (x : TypeExpr) (v : Name) (e : Expr) : Type 0 where
     pub left : ℕ
     pub left_is : step_type u x ≡ Some left
     pub fresh : find_local ls v ≡ None
     pub right : ℕ
-    pub right_is : step_type u y ≡ Some right
-    pub has : typed n (ty.Class right [])
-    pub constructor : ℕ
-    pub is_constructor : IsConstructor w right constructor
-    pub uses : used n (use_of.Method constructor)
+    pub value : HasClass typed used u w ls e right
+    pub fits : Subtype w (ty.Class right []) (ty.Class left [])
+
+  -- what the typing of `x = e;` says, n being the node of the assignment and k that of `x`
+  pub record AssignSays (x : Name) (e : Expr) (n k : ℕ) : Type 0 where
+    pub left : ℕ
+    pub to : NameSays x k left
+    pub has : typed n (ty.Class left [])
+    pub right : ℕ
+    pub value : HasClass typed used u w ls e right
     pub fits : Subtype w (ty.Class right []) (ty.Class left [])
 
   -- what the typing of `x.m();` says, n being the node of the call and k that of `x`
@@ -70,27 +91,53 @@ module _ (typed : ℕ → JavaType → Type 0) (used : ℕ → Use → Type 0) (
     pub uses : used n (use_of.Method method)
 
   module _ (names : List (List ℕ)) (ts : List Tok) (n i : ℕ) where
-    pub local_says : IsStmtTyped typed used u w ls (local_at names ts n i)
-        → LocalSays (type_at names ts (n + 1) i 0) (name_at names ts (i + 1)) (type_at names ts (n + 4) (i + 4) 0) (n + 3)
-    local_says (c, is, fresh, e, init, a, h, below) =
-        let new : Expr = t.New (node_of names ts (n + 3) (i + 3) (i + 7)) (type_at names ts (n + 4) (i + 4) 0) t.End in
-        let k : HasType typed used u w ls new a = subst (λ e. HasType typed used u w ls e a) (sym (same_Some new e init)) h in
+    pub new_says : (c : ℕ) → HasClass typed used u w ls (new_at names ts n i) c → NewSays (type_at names ts (n + 1) (i + 1) 0) n c
+    new_says c h =
+        let class : h.0 ≡ c = sym (same_number c h.0 [] [] h.2).0 in
         record {
-          left = c;
-          left_is = is;
-          fresh = fresh;
-          right = k.0;
-          right_is = k.1;
-          has = subst (λ a. typed (n + 3) a) k.2 k.3;
-          constructor = k.4;
-          is_constructor = k.5;
-          uses = k.6;
-          fits = subst (λ a. Subtype w a (ty.Class c [])) k.2 below;
+          class_is = h.1 ∙ ap (λ c. Some c) class;
+          has = h.3;
+          constructor = h.4;
+          is_constructor = subst (λ c. IsConstructor w c h.4) class h.5;
+          uses = h.6;
         }
 
-    pub says_local : LocalSays (type_at names ts (n + 1) i 0) (name_at names ts (i + 1)) (type_at names ts (n + 4) (i + 4) 0) (n + 3)
-        → IsStmtTyped typed used u w ls (local_at names ts n i)
-    says_local h = (h.left, h.left_is, h.fresh, _, refl, ty.Class h.right [], (h.right, h.right_is, refl, h.has, h.constructor, h.is_constructor, h.uses), h.fits)
+    pub says_new : (c : ℕ) → NewSays (type_at names ts (n + 1) (i + 1) 0) n c → HasClass typed used u w ls (new_at names ts n i) c
+    says_new c s = (c, s.class_is, refl, s.has, s.constructor, s.is_constructor, s.uses)
+
+    pub name_says : (c : ℕ) → HasClass typed used u w ls (name_expr names ts n i) c → NameSays (name_at names ts i) n c
+    name_says c h = record { local = h.0; found = h.1; same = h.2; has = h.3; uses = h.4 }
+
+    pub says_name : (c : ℕ) → NameSays (name_at names ts i) n c → HasClass typed used u w ls (name_expr names ts n i) c
+    says_name c s = (s.local, s.found, s.same, s.has, s.uses)
+
+    pub local_says : (m : ℕ) (e : Expr) → IsStmtTyped typed used u w ls (local_at names ts n i m e) → LocalSays (type_at names ts (n + 1) i 0) (name_at names ts (i + 1)) e
+    local_says m e (c, is, fresh, from, init, d, h, below) = record {
+      left = c;
+      left_is = is;
+      fresh = fresh;
+      right = d;
+      value = subst (λ e. HasClass typed used u w ls e d) (sym (same_Some e from init)) h;
+      fits = below;
+    }
+
+    pub says_local : (m : ℕ) (e : Expr) → LocalSays (type_at names ts (n + 1) i 0) (name_at names ts (i + 1)) e → IsStmtTyped typed used u w ls (local_at names ts n i m e)
+    says_local m e s = (s.left, s.left_is, s.fresh, e, refl, s.right, s.value, s.fits)
+
+    pub assign_says : (m : ℕ) (e : Expr) → IsStmtTyped typed used u w ls (assign_at names ts n i m e) → AssignSays (name_at names ts i) e (n + 1) (n + 2)
+    assign_says m e (c, (l, found, same, has, uses), typed, d, h, below) = record {
+      left = c;
+      to = record { local = l; found = found; same = same; has = has; uses = uses };
+      has = typed;
+      right = d;
+      value = h;
+      fits = below;
+    }
+
+    pub says_assign : (m : ℕ) (e : Expr) → AssignSays (name_at names ts i) e (n + 1) (n + 2) → IsStmtTyped typed used u w ls (assign_at names ts n i m e)
+    says_assign m e s =
+        let to = s.to in
+        (s.left, (to.local, to.found, to.same, to.has, to.uses), s.has, s.right, s.value, s.fits)
 
     pub call_says : IsStmtTyped typed used u w ls (call_at names ts n i) → CallSays (name_at names ts i) (name_at names ts (i + 2)) (n + 1) (n + 2)
     call_says (c, (l, found, same, has, uses_local), k, chosen, uses) = record {

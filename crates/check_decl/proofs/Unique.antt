@@ -5,7 +5,7 @@ use Rattle.java_tree.specs.Plain as t
 use Rattle.java_tree.specs.Plain.{Expr, Stmt, Stmts, SourceUnit}
 use Rattle.small_lexer.specs.declared.token.Tok.{Tok}
 use Rattle.small_parser.specs.Nodes.{stmt_nodes}
-use Rattle.small_parser.specs.Grammar.{AreSteps, IsStep, Spells, local_at, call_at, name_at, type_at, node_of}
+use Rattle.small_parser.specs.Grammar.{AreSteps, IsStep, Spells, local_at, assign_at, call_at, name_expr, name_at}
 use Rattle.class_world.specs.declared.world.JavaType.TheVariants as ty
 use Rattle.class_world.specs.Subtypes.{IsClassTree}
 use Rattle.class_world.specs.Members.{AreApart, IsChosen}
@@ -14,24 +14,45 @@ use Rattle.class_world.proofs.Chosen.{chosen_one}
 use Rattle.java_typing.specs.declared.table.Use.TheVariants as use_of
 use Rattle.java_typing.specs.Main.{main_steps, HasStmt}
 use Rattle.java_typing.specs.WorldOf.{world_of}
-use Rattle.java_typing.specs.Typing.{Local, Annotation, Annotates, IsConstructor, scope_after}
+use Rattle.java_typing.specs.Typing.{Local, Annotation, Annotates, HasClass, IsConstructor, scope_after}
 use Rattle.check_decl.specs.Agreement.{AgreeOn, AgreeIn}
 use Rattle.check_decl.proofs.Steps.{local_says, call_says, steps_of_main}
 use Rattle.check_decl.proofs.Annotated.{Typed, Used, Says, SayAll}
 use Rattle.check_decl.proofs.Constructors.{one_constructor, none_declared}
 
 module _ (names : List (List ℕ)) (ts : List Tok) (u : SourceUnit) (s : Spells names ts u) (tree : IsClassTree (world_of u)) (apart : AreApart (world_of u)) (a b : Annotation) where
-  new_agrees : (n i : ℕ) (ls : List Local) → Says names ts u (world_of u) a ls (local_at names ts n i) → Says names ts u (world_of u) b ls (local_at names ts n i) → AgreeIn a b (local_at names ts n i)
-  new_agrees n i ls h k =
-      let w = world_of u in
-      let p = local_says (Typed a) (Used a) u w ls names ts n i h in
-      let q = local_says (Typed b) (Used b) u w ls names ts n i k in
-      let class : p.right ≡ q.right = same_Some p.right q.right (sym p.right_is ∙ q.right_is) in
-      let other : IsConstructor w p.right q.constructor = subst (λ c. IsConstructor w c q.constructor) (sym class) q.is_constructor in
-      let made : p.constructor ≡ q.constructor = one_constructor u (none_declared names ts u s) p.right p.constructor q.constructor p.is_constructor other in
-      let new : Expr = t.New (node_of names ts (n + 3) (i + 3) (i + 7)) (type_at names ts (n + 4) (i + 4) 0) t.End in
-      λ e init. subst (λ e. AgreeOn a b e) (same_Some new e init)
-      (p.has ∙ ap (λ c. Some (ty.Class c [])) class ∙ sym q.has, p.uses ∙ ap (λ k. Some (use_of.Method k)) made ∙ sym q.uses)
+  abbrev Has : Annotation → List Local → Expr → ℕ → Type 0
+  Has a = HasClass (Typed a) (Used a) u (world_of u)
+
+  -- one local has one class
+  one_local : (c d : ℕ) (k l : Local) → k ≡ l → ty.Class c [] ≡ k.ty → ty.Class d [] ≡ l.ty → c ≡ d
+  one_local c d k l e h g = (same_number c d [] [] (h ∙ ap (λ (l : Local). l.ty) e ∙ sym g)).0
+
+  values_agree : (ls : List Local) (e : Expr) (c d : ℕ) → Has a ls e c → Has b ls e d → (c ≡ d) × AgreeOn a b e
+  values_agree ls (t.Name n x) c d h g =
+      let local : h.0 ≡ g.0 = same_Some h.0 g.0 (sym h.1 ∙ g.1) in
+      let class : c ≡ d = one_local c d h.0 g.0 local h.2 g.2 in
+      (class, (h.3 ∙ ap (λ c. Some (ty.Class c [])) class ∙ sym g.3, h.4 ∙ ap (λ (l : Local). Some (use_of.Local l.node)) local ∙ sym g.4))
+  values_agree ls (t.New n x t.End) c d h g =
+      let same : h.0 ≡ g.0 = same_Some h.0 g.0 (sym h.1 ∙ g.1) in
+      let class : c ≡ d = (same_number c h.0 [] [] h.2).0 ∙ same ∙ sym (same_number d g.0 [] [] g.2).0 in
+      let other : IsConstructor (world_of u) h.0 g.4 = subst (λ c. IsConstructor (world_of u) c g.4) (sym same) g.5 in
+      let made : h.4 ≡ g.4 = one_constructor u (none_declared names ts u s) h.0 h.4 g.4 h.5 other in
+      (class, (h.3 ∙ ap (λ c. Some (ty.Class c [])) class ∙ sym g.3, h.6 ∙ ap (λ k. Some (use_of.Method k)) made ∙ sym g.6))
+  values_agree ls _ c d h g = absurd h
+
+  local_agrees : (n i m : ℕ) (e : Expr) (ls : List Local) → Says names ts u (world_of u) a ls (local_at names ts n i m e) → Says names ts u (world_of u) b ls (local_at names ts n i m e)
+      → AgreeIn a b (local_at names ts n i m e)
+  local_agrees n i m e ls h k =
+      let p = local_says (Typed a) (Used a) u (world_of u) ls names ts n i m e h in
+      let q = local_says (Typed b) (Used b) u (world_of u) ls names ts n i m e k in
+      λ f init. subst (λ e. AgreeOn a b e) (same_Some e f init) (values_agree ls e p.right q.right p.value q.value).1
+
+  assign_agrees : (n i m : ℕ) (e : Expr) (ls : List Local) → Says names ts u (world_of u) a ls (assign_at names ts n i m e) → Says names ts u (world_of u) b ls (assign_at names ts n i m e)
+      → AgreeIn a b (assign_at names ts n i m e)
+  assign_agrees n i m e ls h k =
+      let to = values_agree ls (name_expr names ts (n + 2) i) h.0 k.0 h.1 k.1 in
+      (h.2 ∙ ap (λ c. Some (ty.Class c [])) to.0 ∙ sym k.2, to.1, (values_agree ls e h.3 k.3 h.4 k.4).1)
 
   call_agrees : (n i : ℕ) (ls : List Local) → Says names ts u (world_of u) a ls (call_at names ts n i) → Says names ts u (world_of u) b ls (call_at names ts n i) → AgreeIn a b (call_at names ts n i)
   call_agrees n i ls h k =
@@ -39,20 +60,22 @@ module _ (names : List (List ℕ)) (ts : List Tok) (u : SourceUnit) (s : Spells 
       let p = call_says (Typed a) (Used a) u w ls names ts n i h in
       let q = call_says (Typed b) (Used b) u w ls names ts n i k in
       let local : p.local ≡ q.local = same_Some p.local q.local (sym p.found ∙ q.found) in
-      let class : ty.Class p.owner [] ≡ ty.Class q.owner [] = p.same ∙ ap (λ (l : Local). l.ty) local ∙ sym q.same in
-      let owner : p.owner ≡ q.owner = (same_number p.owner q.owner [] [] class).0 in
+      let owner : p.owner ≡ q.owner = one_local p.owner q.owner p.local q.local local p.same q.same in
       let m = name_at names ts (i + 2) in
       let other : IsChosen w p.owner m q.method = subst (λ c. IsChosen w c m q.method) (sym owner) q.chosen in
       let method : p.method ≡ q.method = chosen_one w p.owner m p.method q.method tree apart p.chosen other in (
         p.uses ∙ ap (λ k. Some (use_of.Method k)) method ∙ sym q.uses,
-        (p.has ∙ ap (λ t. Some t) class ∙ sym q.has, p.uses_local ∙ ap (λ (l : Local). Some (use_of.Local l.node)) local ∙ sym q.uses_local),
+        (p.has ∙ ap (λ c. Some (ty.Class c [])) owner ∙ sym q.has, p.uses_local ∙ ap (λ (l : Local). Some (use_of.Local l.node)) local ∙ sym q.uses_local),
       )
 
   one_agrees : (x : Stmt) (n i m : ℕ) (ls : List Local) → IsStep names ts n x i m → Says names ts u (world_of u) a ls x → Says names ts u (world_of u) b ls x → AgreeIn a b x
-  one_agrees x n i m ls (inl (stand, e, next)) h k =
-      subst (λ x. AgreeIn a b x) (sym e)
-      (new_agrees n i ls (subst (λ x. Says names ts u (world_of u) a ls x) e h) (subst (λ x. Says names ts u (world_of u) b ls x) e k))
-  one_agrees x n i m ls (inr (stand, e, next)) h k =
+  one_agrees x n i m ls (inl p) h k =
+      subst (λ x. AgreeIn a b x) (sym p.tree)
+      (local_agrees n i p.end p.init ls (subst (λ x. Says names ts u (world_of u) a ls x) p.tree h) (subst (λ x. Says names ts u (world_of u) b ls x) p.tree k))
+  one_agrees x n i m ls (inr (inl p)) h k =
+      subst (λ x. AgreeIn a b x) (sym p.tree)
+      (assign_agrees n i p.end p.from ls (subst (λ x. Says names ts u (world_of u) a ls x) p.tree h) (subst (λ x. Says names ts u (world_of u) b ls x) p.tree k))
+  one_agrees x n i m ls (inr (inr (stand, e, next))) h k =
       subst (λ x. AgreeIn a b x) (sym e)
       (call_agrees n i ls (subst (λ x. Says names ts u (world_of u) a ls x) e h) (subst (λ x. Says names ts u (world_of u) b ls x) e k))
 

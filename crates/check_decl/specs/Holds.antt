@@ -1,26 +1,25 @@
 -- The rules on a statement and its parts, as `StepsHold` has them: no table by node is asked for.
-use Rattle.std.specs.Prelude.{◌≡◌, Bool, List, Option, Some, None, Result, Ok, Err, ◌↔◌, IsTrue}
+use Rattle.std.specs.Prelude.{◌≡◌, ℕ, Bool, List, Option, Some, None, Result, Ok, Err, ◌↔◌, IsTrue}
 use Rattle.java_tree.specs.Plain.{Expr, Stmt, Stmts, SourceUnit}
 use Rattle.java_tree.specs.declared.fault.NoMemory.{NoMemory}
 use Rattle.class_world.specs.declared.world.World.{World}
-use Rattle.class_world.specs.declared.world.JavaType.{JavaType}
 use Rattle.class_world.specs.Subtypes.{IsClassTree}
 use Rattle.class_world.specs.Tables.{Indexes}
 use Rattle.java_typing.specs.Main.{main_method, params_of}
 use Rattle.java_typing.specs.WorldOf.{world_of}
-use Rattle.java_typing.specs.Typing.{Local, HasType, IsCallTyped, IsStmtTyped, AreTyped, scope_after, params_in}
+use Rattle.java_typing.specs.Typing.{Local, HasClass, IsPerformed, IsStmtTyped, AreTyped, scope_after, params_in}
 use Rattle.decl_table.specs.Classes.{Numbers}
 use Rattle.decl_table.specs.declared.build.Declared.{Declared}
 use Rattle.check_decl.specs.declared.scope.Scope.{Scope}
-use Rattle.check_decl.specs.declared.scope.Binding.{Binding}
-use Rattle.check_decl.specs.Scopes.{Describes, Binds}
+use Rattle.check_decl.specs.Scopes.{Binds}
 
 module _ (u : SourceUnit) (w : World) where
-  abbrev pub IsOfType : List Local → Expr → JavaType → Type 0
-  IsOfType = HasType (λ n a. Unit {0}) (λ n x. Unit {0}) u w
+  abbrev pub IsOfClass : List Local → Expr → ℕ → Type 0
+  IsOfClass = HasClass (λ n a. Unit {0}) (λ n x. Unit {0}) u w
 
-  abbrev pub CallHolds : List Local → Expr → Type 0
-  CallHolds = IsCallTyped (λ n a. Unit {0}) (λ n x. Unit {0}) u w
+  -- an assignment or a call
+  abbrev pub PerformHolds : List Local → Expr → Type 0
+  PerformHolds = IsPerformed (λ n a. Unit {0}) (λ n x. Unit {0}) u w
 
   abbrev pub StepHolds : List Local → Stmt → Type 0
   StepHolds = IsStmtTyped (λ n a. Unit {0}) (λ n x. Unit {0}) u w
@@ -32,10 +31,10 @@ module _ (u : SourceUnit) (w : World) where
   abbrev pub at_start : List Local
   at_start = params_in (λ n a. Unit {0}) (λ n x. Unit {0}) u w (params_of (main_method u))
 
-  -- the expression has the one type that is described, or none
-  abbrev pub IsValueOf : List Local → Expr → Option Binding → Type 0
-  IsValueOf ls e None = (a : JavaType) → IsOfType ls e a → ⊥
-  IsValueOf ls e (Some b) = (a : JavaType) × Describes b a × IsOfType ls e a × ((t : JavaType) → IsOfType ls e t → t ≡ a)
+  -- the expression gives an object of this one class, or none
+  abbrev pub IsClassOf : List Local → Expr → Option ℕ → Type 0
+  IsClassOf ls e None = (c : ℕ) → IsOfClass ls e c → ⊥
+  IsClassOf ls e (Some c) = IsOfClass ls e c × ((d : ℕ) → IsOfClass ls e d → d ≡ c)
 
   -- The answer says whether the statement is right, and where it is, the scope is then the one behind it.
   abbrev pub Decides : List Local → Stmt → Scope → Result Bool NoMemory → Type 0

@@ -1,84 +1,84 @@
 //! The rules on main's statements, one after the other.
 
-ghost use Rattle.std.specs.Prelude.{◌≡◌, ℕ, Bool, List, [], ◌∷◌, IfOk, ◌↔◌, IsTrue, map};
+ghost use Rattle.std.specs.Prelude.{◌≡◌, ℕ, Bool, List, [], ◌∷◌, None, IfOk, ◌↔◌, IsTrue, map};
 ghost use Rattle.java_tree.specs.Plain as t;
 ghost use Rattle.java_tree.specs.declared.tree.Node as nodes;
 ghost use Rattle.java_tree.specs.View.{plain, type_plain, var_plain, stmt_plain, stmts_plain, unit_plain};
 ghost use Rattle.small_lexer.specs.declared.token.Tok as toks;
 ghost use Rattle.small_parser.specs.Grammar.{Spells};
-ghost use Rattle.class_world.specs.declared.world.JavaType as types;
-ghost use Rattle.class_world.specs.declared.world.JavaType.TheVariants as ty;
 ghost use Rattle.class_world.specs.declared.world.World as worlds;
-ghost use Rattle.class_world.specs.Subtypes.{IsClassTree, Subtype};
 ghost use Rattle.java_typing.specs.Typing.{Local, StepsHold};
-ghost use Rattle.check_decl.specs.Scopes.{Binds, Calls, Describes};
-ghost use Rattle.check_decl.specs.Holds.{at_start, AllHold, AreOf, CallHolds, Decides, IsReady, IsValueOf};
+ghost use Rattle.check_decl.specs.Scopes.{Binds};
+ghost use Rattle.check_decl.specs.Holds.{at_start, AllHold, AreOf, Decides, IsClassOf, IsReady, PerformHolds};
 
 use crate::scope::{Binding, Scope};
-use class_world::{World, find_method, is_sub_class};
+use class_world::{find_method, is_sub_class};
 use decl_table::Declared;
 use java_tree::NoMemory;
 use java_tree::tree::{Expr, ExprForm, Name, SourceUnit, Stmt, StmtForm, TypeExpr, Var};
 use java_typing::{main_param, main_steps};
 use std::alloc::Global;
 
-/// What a step's expression gives (T25, T38).
-fn value_of(declared: &Declared, scope: &Scope, e: &Expr) -> Option<Binding>
-    ensures { (u : t.SourceUnit) (ls : List Local) → AreOf declared.now u → Binds scope.now ls → IsValueOf u declared.now.world ls (plain e.now) result }
+/// The class of the object that a name or a creation gives (T25, T38).
+fn class_of(declared: &Declared, scope: &Scope, e: &Expr) -> Option<u32>
+    ensures { (u : t.SourceUnit) (ls : List Local) → AreOf declared.now u → Binds scope.now ls → IsClassOf u declared.now.world ls (plain e.now) result }
 {
     match &e.form {
-        ExprForm::Name(name) => scope.get(*name),
+        ExprForm::Name(name) => scope.class_of(*name),
         ExprForm::New { ty, args } => {
             if !args.is_empty() {
                 return None;
             }
-            Some(Binding::Object(declared.classes.step_class(ty)?))
+            declared.classes.step_class(ty)
         }
         _ => None,
     }
 }
 
-/// Whether a value can be what a local of a class is initialised with (T4).
-fn fits(world: &World, value: Binding, class: u32) -> bool
-    requires { IsClassTree world.now }
-    ensures { (a : types.JavaType) → Describes value a → IsTrue result ↔ Subtype world.now a (ty.Class class []) }
+/// Whether a name can be assigned a value: the value's class is the variable's, or below it (T58).
+fn assign_holds(declared: &Declared, scope: &Scope, to: &Expr, from: &Expr) -> bool
+    requires { IsReady declared.now }
+    ensures { (u : t.SourceUnit) (ls : List Local) (n : nodes.Node) → AreOf declared.now u → Binds scope.now ls
+        → IsTrue result ↔ PerformHolds u declared.now.world ls (t.Assign n None (plain to.now) (plain from.now)) }
 {
-    match value {
-        Binding::Object(c) => is_sub_class(world, c, class),
-        Binding::Array => false,
-    }
+    let ExprForm::Name(name) = &to.form else {
+        return false;
+    };
+    let Some(variable) = scope.class_of(*name) else {
+        return false;
+    };
+    let Some(value) = class_of(declared, scope, from) else {
+        return false;
+    };
+    is_sub_class(&declared.world, value, variable)
 }
 
-/// Whether a call of this name without arguments chooses a method on a value (T36). An array has no such method.
-fn has_method(declared: &Declared, value: Binding, name: Name) -> bool
+/// Whether a method can be called without arguments: the object's class has one of this name (T33, T36).
+fn call_holds(declared: &Declared, scope: &Scope, of: &Expr, name: Name) -> bool
     requires { IsReady declared.now }
-    ensures { IsTrue result ↔ Calls declared.now.world value name }
+    ensures { (u : t.SourceUnit) (ls : List Local) (n : nodes.Node) → AreOf declared.now u → Binds scope.now ls
+        → IsTrue result ↔ PerformHolds u declared.now.world ls (t.Call n (t.AnExpr (plain of.now)) name t.End) }
 {
-    match value {
-        Binding::Object(class) => {
-            find_method(&declared.world, &declared.methods, class, name).is_some()
+    let Some(class) = class_of(declared, scope, of) else {
+        return false;
+    };
+    find_method(&declared.world, &declared.methods, class, name).is_some()
+}
+
+/// Whether what a statement performs is right: an assignment, or a call without arguments.
+fn performed_holds(declared: &Declared, scope: &Scope, e: &Expr) -> bool
+    requires { IsReady declared.now }
+    ensures { (u : t.SourceUnit) (ls : List Local) → AreOf declared.now u → Binds scope.now ls → IsTrue result ↔ PerformHolds u declared.now.world ls (plain e.now) }
+{
+    match &e.form {
+        ExprForm::Assign { op: None, to, from } => {
+            assign_holds(declared, scope, to.get(), from.get())
         }
-        Binding::Array => false,
-    }
-}
-
-/// Whether an expression is a call without arguments on a value that has the method (T33).
-fn call_holds(declared: &Declared, scope: &Scope, e: &Expr) -> bool
-    requires { IsReady declared.now }
-    ensures { (u : t.SourceUnit) (ls : List Local) → AreOf declared.now u → Binds scope.now ls → IsTrue result ↔ CallHolds u declared.now.world ls (plain e.now) }
-{
-    let ExprForm::Call { of, name, args } = &e.form else {
-        return false;
-    };
-    let Some(of) = of else {
-        return false;
-    };
-    if !args.is_empty() {
-        return false;
-    }
-    match value_of(declared, scope, of.get()) {
-        Some(value) => has_method(declared, value, *name),
-        None => false,
+        ExprForm::Call { of, name, args } => match of {
+            Some(of) if args.is_empty() => call_holds(declared, scope, of.get(), *name),
+            _ => false,
+        },
+        _ => false,
     }
 }
 
@@ -99,10 +99,10 @@ fn local_holds(
     let Some(init) = &var.init else {
         return Ok(false);
     };
-    let Some(value) = value_of(declared, scope, init) else {
+    let Some(value) = class_of(declared, scope, init) else {
         return Ok(false);
     };
-    if !fits(&declared.world, value, class) {
+    if !is_sub_class(&declared.world, value, class) {
         return Ok(false);
     }
     scope.insert(var.name, Binding::Object(class))
@@ -118,7 +118,7 @@ fn step_holds(declared: &Declared, scope: &mut Scope, step: &Stmt) -> Result<boo
             [var] => local_holds(declared, scope, ty, var),
             _ => Ok(false),
         },
-        StmtForm::Value(e) => Ok(call_holds(declared, scope, e)),
+        StmtForm::Value(e) => Ok(performed_holds(declared, scope, e)),
         _ => Ok(false),
     }
 }
@@ -148,7 +148,7 @@ fn main_scope(alloc: Global, unit: &SourceUnit) -> Result<Scope, NoMemory>
     Ok(scope)
 }
 
-/// Whether no typing rule is broken in main (T4, T5, T25, T33, T36, T38).
+/// Whether no typing rule is broken in main (T4, T5, T25, T33, T36, T38, T58).
 pub fn check_small(alloc: Global, unit: &SourceUnit, declared: &Declared) -> Result<bool, NoMemory>
     requires small { (names : List (List ℕ)) × (ts : List toks.Tok) × Spells names ts (unit_plain unit.now) }
     requires tables { AreOf declared.now (unit_plain unit.now) }

@@ -2,7 +2,7 @@
 
 ghost use Rattle.std.specs.Prelude.{◌≡◌, List, [], ◌∷◌, None, ◌↔◌, IsTrue, IfOk, OnOk};
 ghost use Rattle.java_typing.specs.Typing.{Local, find_local};
-ghost use Rattle.check_decl.specs.Scopes.{Describes, IsBound, Binds};
+ghost use Rattle.check_decl.specs.Scopes.{Describes, IsHeld, Binds};
 
 use java_tree::NoMemory;
 use java_tree::tree::Name;
@@ -31,10 +31,14 @@ impl Scope {
         }
     }
 
-    pub fn get(&self, name: Name) -> Option<Binding>
-        ensures { (ls : List Local) → Binds self.now ls → IsBound result (find_local ls name) }
+    /// The class of the object that a name holds: nothing, if it holds an array or is not in scope.
+    pub fn class_of(&self, name: Name) -> Option<u32>
+        ensures { (ls : List Local) → Binds self.now ls → IsHeld result (find_local ls name) }
     {
-        self.bindings.get(&name.0).copied()
+        match self.bindings.get(&name.0).copied()? {
+            Binding::Object(class) => Some(class),
+            Binding::Array => None,
+        }
     }
 
     /// Brings a name into scope, and says whether it is new there.

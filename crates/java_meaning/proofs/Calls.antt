@@ -7,7 +7,7 @@ use Rattle.java_tree.specs.Plain.{SourceUnit}
 use Rattle.java_tree.specs.View.{stmt_plain, stmts_plain}
 use Rattle.class_world.specs.declared.world.World.{World}
 use Rattle.class_world.specs.Members.{IsChosen}
-use Rattle.java_meaning.specs.Steps.{creation_of, call_of}
+use Rattle.java_meaning.specs.Steps.{store_of, call_of}
 use Rattle.java_meaning.specs.Simple.{Ran, Course, Goes, Cut, Holds, go_on, goes_with, enters, lines, class_held, PickIs, steps_run}
 use Rattle.java_meaning.specs.Runs.{course, call_run, step_run, IsNext, Holding}
 use Rattle.java_meaning.specs.declared.steps.LocalCall.{LocalCall}
@@ -41,7 +41,7 @@ module _ (u : SourceUnit) (w : World) (pick : ℕ → Name → Option ℕ) (step
   -- the statements from the i-th on run as the first of them says
   pub first_step : (x : declared_stmt.Stmt) → i < length steps → x ≡ get_or steps i x
       → steps_run u w pick (stmts_plain (drop i steps)) here r
-      ≡ step_run u w pick (creation_of u (stmt_plain x)) (call_of (stmt_plain x)) (λ hs r. steps_run u w pick (stmts_plain (drop (i + 1) steps)) hs r) here r
+      ≡ step_run u w pick (store_of u (stmt_plain x)) (call_of (stmt_plain x)) (λ hs r. steps_run u w pick (stmts_plain (drop (i + 1) steps)) hs r) here r
   first_step x within is =
       ap (λ xs. steps_run u w pick (stmts_plain xs) here r) (drop_more steps i x within ∙ ap (λ y. y ∷ drop (i + 1) steps) (sym is))
       ∙ step_says u w pick (stmt_plain x) (stmts_plain (drop (i + 1) steps)) here r
@@ -49,12 +49,12 @@ module _ (u : SourceUnit) (w : World) (pick : ℕ → Name → Option ℕ) (step
   pub no_step : length steps ≤ i → steps_run u w pick (stmts_plain (drop i steps)) here r ≡ Goes r
   no_step past = ap (λ xs. steps_run u w pick (stmts_plain xs) here r) (drop_all i steps past)
 
-module _ (n : Next) (ls : Locals) (hs : List Holds) (r : Ran) (rest : List Holds → Ran → Course) (c : Course) (is : IsNext n ls hs r rest c) where
+module _ (n : Next) (ls : Locals) (r : Ran) (rest : List Holds → Ran → Course) (c : Course) (is : IsNext n ls r rest c) where
   pub is_done : n ≡ next.Done → c ≡ Goes r
-  is_done e = subst (λ n. IsNext n ls hs r rest c) e is
+  is_done e = subst (λ n. IsNext n ls r rest c) e is
 
   pub is_cut : n ≡ next.AtBound → c ≡ Cut r
-  is_cut e = subst (λ n. IsNext n ls hs r rest c) e is
+  is_cut e = subst (λ n. IsNext n ls r rest c) e is
 
-  pub is_on : n ≡ next.On → Holding ls hs × (c ≡ rest hs r)
-  is_on e = subst (λ n. IsNext n ls hs r rest c) e is
+  pub is_on : n ≡ next.On → (hs : List Holds) × Holding ls hs × (c ≡ rest hs r)
+  is_on e = subst (λ n. IsNext n ls r rest c) e is

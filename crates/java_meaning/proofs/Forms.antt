@@ -5,16 +5,20 @@ use Rattle.java_tree.specs.declared.tree.Node.{Node}
 use Rattle.java_tree.specs.declared.tree.Name.{Name}
 use Rattle.java_tree.specs.declared.tree.Expr as declared_expr
 use Rattle.java_tree.specs.Plain as t
-use Rattle.java_tree.specs.Plain.{TypeExpr, Expr, Exprs, Stmt, Stmts, Var, SourceUnit}
+use Rattle.java_tree.specs.Plain.{TypeExpr, Expr, Exprs, Stmt, Stmts, SourceUnit}
 use Rattle.java_tree.specs.View.{plain, plains}
 use Rattle.class_world.specs.declared.world.World.{World}
-use Rattle.java_meaning.specs.Steps.{created, creation_of, call_of, text_of, lone_text, print_of, line_of}
-use Rattle.java_meaning.specs.Simple.{Ran, Holds, go_on, goes_with, constructs, printed, steps_run}
+use Rattle.java_typing.specs.Typing.{step_type}
+use Rattle.java_meaning.specs.declared.steps.Source.{Source}
+use Rattle.java_meaning.specs.declared.steps.Source.TheVariants as from
+use Rattle.java_meaning.specs.declared.steps.Store.{Store}
+use Rattle.java_meaning.specs.Steps.{source_of, store_of, call_of, text_of, lone_text, print_of, line_of}
+use Rattle.java_meaning.specs.Simple.{Ran, Holds, go_on, goes_with, constructs, gives, printed, steps_run}
 use Rattle.java_meaning.specs.Runs.{step_run}
 
-pub created_with_arguments : (u : SourceUnit) (n : Node) (c : TypeExpr) (xs : List declared_expr.Expr) → (xs ≡ [] → ⊥) → None ≡ created u (t.New n c (plains xs))
-created_with_arguments u n c [] h = absurd (h refl)
-created_with_arguments u n c (x ∷ xs) h = refl
+pub new_with_arguments : (u : SourceUnit) (n : Node) (c : TypeExpr) (xs : List declared_expr.Expr) → (xs ≡ [] → ⊥) → None ≡ source_of u (t.New n c (plains xs))
+new_with_arguments u n c [] h = absurd (h refl)
+new_with_arguments u n c (x ∷ xs) h = refl
 
 pub call_with_arguments : (n k r : Node) (x m : Name) (xs : List declared_expr.Expr) → (xs ≡ [] → ⊥) → None ≡ call_of (t.Value n (t.Call k (t.AnExpr (t.Name r x)) m (plains xs)))
 call_with_arguments n k r x m [] h = absurd (h refl)
@@ -52,19 +56,33 @@ printed_step _ rest = refl
 
 module _ (u : SourceUnit) (w : World) (pick : ℕ → Name → Option ℕ) where
   abbrev Says : Stmt → Type 0
-  Says x = (xs : Stmts) (hs : List Holds) (r : Ran) → steps_run u w pick (t.Then x xs) hs r ≡ step_run u w pick (creation_of u x) (call_of x) (λ hs r. steps_run u w pick xs hs r) hs r
+  Says x = (xs : Stmts) (hs : List Holds) (r : Ran) → steps_run u w pick (t.Then x xs) hs r ≡ step_run u w pick (store_of u x) (call_of x) (λ hs r. steps_run u w pick xs hs r) hs r
 
-  created_says : (x : Var) (o : Option ℕ) (xs : Stmts) (hs : List Holds) (r : Ran)
-      → goes_with o r (λ c. go_on (constructs (length w.types) w c r) (λ r. steps_run u w pick xs (record { name = x.name; class = c } ∷ hs) r))
-      ≡ step_run u w pick (option_map (λ k. record { name = x.name; class = k }) o) None (λ hs r. steps_run u w pick xs hs r) hs r
-  created_says x None xs hs r = refl
-  created_says x (Some c) xs hs r = refl
+  abbrev is_given : Name → Option Source → Option Store
+  is_given x o = option_map (λ s. record { name = x; source = s }) o
+
+  new_says : (x : Name) (o : Option ℕ) (xs : Stmts) (hs : List Holds) (r : Ran)
+      → goes_with o r (λ c. go_on (constructs (length w.types) w c r) (λ r. steps_run u w pick xs (record { name = x; class = c } ∷ hs) r))
+      ≡ step_run u w pick (is_given x (option_map from.Created o)) None (λ hs r. steps_run u w pick xs hs r) hs r
+  new_says x None xs hs r = refl
+  new_says x (Some c) xs hs r = refl
+
+  given_says : (x : Name) (o : Option Expr) (xs : Stmts) (hs : List Holds) (r : Ran)
+      → gives u w o hs r (λ c r. steps_run u w pick xs (record { name = x; class = c } ∷ hs) r)
+      ≡ step_run u w pick (is_given x (option_and_then (source_of u) o)) None (λ hs r. steps_run u w pick xs hs r) hs r
+  given_says x (Some (t.New n c t.End)) xs hs r = new_says x (step_type u c) xs hs r
+  given_says x (Some (t.New n c (t.Also y ys))) xs hs r = refl
+  given_says x (Some _) xs hs r = refl
+  given_says x None xs hs r = refl
 
   -- a statement runs as what it says
   pub step_says : (x : Stmt) → Says x
   step_says (t.Local n f c []) = λ xs hs r. refl
-  step_says (t.Local n f c (x ∷ [])) = λ xs hs r. created_says x (option_and_then (created u) x.init) xs hs r
+  step_says (t.Local n f c (x ∷ [])) = λ xs hs r. given_says x.name x.init xs hs r
   step_says (t.Local n f c (x ∷ y ∷ ys)) = λ xs hs r. refl
+  step_says (t.Value n (t.Assign k None (t.Name m x) e)) = λ xs hs r. given_says x (Some e) xs hs r
+  step_says (t.Value n (t.Assign k None _ e)) = λ xs hs r. refl
+  step_says (t.Value n (t.Assign k (Some op) to e)) = λ xs hs r. refl
   step_says (t.Value n (t.Call k (t.AnExpr (t.Name rn x)) m t.End)) = λ xs hs r. refl
   step_says (t.Value n (t.Call k (t.AnExpr (t.Name rn x)) m (t.Also y ys))) = λ xs hs r. refl
   step_says (t.Value n (t.Call k (t.AnExpr _) m ys)) = λ xs hs r. refl

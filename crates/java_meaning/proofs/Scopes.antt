@@ -31,75 +31,150 @@ array_is_no_class b c xs e =
     let h : f.Array b ≡ f.Class c xs = sym (ty.outs-Array b) ∙ ap out-JavaType e ∙ ty.outs-Class c xs in
     cc h
 
--- Each local but main's parameter holds an object of a class below its own. Its node has a number below n.
-pub data Fits (w : World) (heap : List Thing) (frame : List Held) (n : ℕ) : List Local → List Holds → Type 0 where
-  start : {l : Local} (item : JavaType) → l.ty ≡ ty.Array item → Fits w heap frame n (l ∷ []) []
-  more : {ls : List Local} {hs : List Holds} {l : Local} {h : Holds} (k : ℕ) → l.name ≡ h.name → l.node < n → held l.node frame ≡ Some (v.Ref k) → slice_get heap k ≡ Some (state.Object h.class [])
-      → Subtype w (ty.Class h.class []) l.ty → Fits w heap frame n ls hs → Fits w heap frame n (l ∷ ls) (h ∷ hs)
-
-pub later : (w : World) (heap : List Thing) (frame : List Held) (n m : ℕ) (ls : List Local) (hs : List Holds) → n ≤ m → Fits w heap frame n ls hs → Fits w heap frame m ls hs
-later w heap frame n m _ _ le (start item e) = start item e
-later w heap frame n m _ _ le (more {ls = ls} {hs = hs} k name node holds there fits rest) = more k name (omega arith) holds there fits (later w heap frame n m ls hs le rest)
-
-held_before : (n m : ℕ) (a : Value) (frame : List Held) (b : Value) → n < m → held n frame ≡ Some b → held n (record { node = m; value = a } ∷ frame) ≡ Some b
-held_before n m a frame b lt e =
-    let test : m == n ≡ false = grind (arith, nat_tests) in
-    ap (λ t. if t then Some a else held n frame) test ∙ e
-
-pub held_here : (m : ℕ) (a : Value) (frame : List Held) → held m (record { node = m; value = a } ∷ frame) ≡ Some a
-held_here m a frame =
-    let test : m == m ≡ true = grind (arith, nat_tests) in
-    ap (λ t. if t then Some a else held m frame) test
-
--- a new object, and a new local at a later node
-pub grown : (w : World) (heap xs : List Thing) (frame : List Held) (n q m : ℕ) (a : Value) (ls : List Local) (hs : List Holds) → n ≤ q → n ≤ m → Fits w heap frame n ls hs
-    → Fits w (heap ++ xs) (record { node = q; value = a } ∷ frame) m ls hs
-grown w heap xs frame n q m a _ _ le le' (start item e) = start item e
-grown w heap xs frame n q m a _ _ le le' (more {ls = ls} {hs = hs} {l = l} {h = h} k name node holds there fits rest) =
-    more k name (omega arith) (held_before l.node q a frame (v.Ref k) (omega arith) holds) (left heap xs k (state.Object h.class []) there) fits (grown w heap xs frame n q m a ls hs le le' rest)
-
--- what a local of a class holds
-pub record HasObject (w : World) (heap : List Thing) (frame : List Held) (hs : List Holds) (x : Name) (node owner : ℕ) : Type 0 where
+-- What a local of a class holds. Its node has a number below n.
+pub record HasObject (w : World) (heap : List Thing) (frame : List Held) (n : ℕ) (hs : List Holds) (x : Name) (node owner : ℕ) : Type 0 where
   pub class : ℕ
   pub number : ℕ
+  pub before : node < n
   pub known : class_held hs x ≡ Some class
   pub holds : held node frame ≡ Some (v.Ref number)
   pub there : slice_get heap number ≡ Some (state.Object class [])
   pub fits : Subtype w (ty.Class class []) (ty.Class owner [])
 
-pub object_of : (w : World) (heap : List Thing) (frame : List Held) (n : ℕ) (ls : List Local) (hs : List Holds) (x : Name) (local : Local) (owner : ℕ) → Fits w heap frame n ls hs
-    → find_local ls x ≡ Some local → ty.Class owner [] ≡ local.ty → HasObject w heap frame hs x local.node owner
-object_of w heap frame n _ _ x local owner (start {l = l} item e) found class = by_name (l.name.0 == x.0) found
-  where
-    by_name : (b : Bool) → (if b then Some l else None) ≡ Some local → HasObject w heap frame [] x local.node owner
-    by_name true g = absurd (array_is_no_class item owner [] (sym e ∙ ap (λ (l : Local). l.ty) (same_Some l local g) ∙ sym class))
-    by_name false g = absurd (cc g)
-object_of w heap frame n _ _ x local owner (more {ls = ls} {hs = hs} {l = l} {h = h} k name node holds there fits rest) found class =
-    by_name (l.name.0 == x.0) refl found (λ found. object_of w heap frame n ls hs x local owner rest found class)
-  where
-    same_test : (h.name.0 == x.0) ≡ (l.name.0 == x.0)
-    same_test = ap (λ (m : Name). m.0 == x.0) (sym name)
+-- Each local but main's parameter holds an object of a class below its own, and no two of them have one node.
+pub record Fits (w : World) (heap : List Thing) (frame : List Held) (n : ℕ) (ls : List Local) (hs : List Holds) : Type 0 where
+  pub objects : (x : Name) (l : Local) (c : ℕ) → find_local ls x ≡ Some l → ty.Class c [] ≡ l.ty → HasObject w heap frame n hs x l.node c
+  pub apart : (x y : Name) (l k : Local) (c d : ℕ) → find_local ls x ≡ Some l → ty.Class c [] ≡ l.ty → find_local ls y ≡ Some k → ty.Class d [] ≡ k.ty → l.node ≡ k.node → x.0 ≡ y.0
 
-    by_name : (b : Bool) → (l.name.0 == x.0) ≡ b → (if b then Some l else find_local ls x) ≡ Some local → (find_local ls x ≡ Some local → HasObject w heap frame hs x local.node owner)
-        → HasObject w heap frame (h ∷ hs) x local.node owner
-    by_name true e g again =
-        let one : l ≡ local = same_Some l local g in record {
-          class = h.class;
-          number = k;
-          known = ap (λ b. if b then Some h.class else class_held hs x) (same_test ∙ e);
-          holds = subst (λ (l : Local). held l.node frame ≡ Some (v.Ref k)) one holds;
-          there = there;
-          fits = subst (λ t. Subtype w (ty.Class h.class []) t) (ap (λ (l : Local). l.ty) one ∙ sym class) fits;
-        }
-    by_name false e g again =
-        let r = again g in record {
-          class = r.class;
-          number = r.number;
-          known = ap (λ b. if b then Some h.class else class_held hs x) (same_test ∙ e) ∙ r.known;
-          holds = r.holds;
-          there = r.there;
-          fits = r.fits;
-        }
+-- no class is found where an array alone is in scope
+array_alone : (l : Local) (item : JavaType) → l.ty ≡ ty.Array item → (x : Name) (k : Local) (c : ℕ) → find_local (l ∷ []) x ≡ Some k → ty.Class c [] ≡ k.ty → ⊥
+array_alone l item e x k c found class = by_name (l.name.0 == x.0) found
+  where
+    by_name : (b : Bool) → (if b then Some l else None) ≡ Some k → ⊥
+    by_name true g = array_is_no_class item c [] (sym e ∙ ap (λ (l : Local). l.ty) (same_Some l k g) ∙ sym class)
+    by_name false g = absurd (cc g)
+
+pub at_first : (w : World) (heap : List Thing) (frame : List Held) (n : ℕ) (l : Local) (item : JavaType) → l.ty ≡ ty.Array item → Fits w heap frame n (l ∷ []) []
+at_first w heap frame n l item e = record {
+  objects = λ x k c found class. absurd (array_alone l item e x k c found class);
+  apart = λ x y k m c d found class other class' node. absurd (array_alone l item e x k c found class);
+}
+
+-- at a later node, with objects more
+pub grown : (w : World) (heap xs : List Thing) (frame : List Held) (n m : ℕ) (ls : List Local) (hs : List Holds) → n ≤ m → Fits w heap frame n ls hs → Fits w (heap ++ xs) frame m ls hs
+grown w heap xs frame n m ls hs le fits = record {
+  objects = λ x l c found class.
+      let o = fits.objects x l c found class in
+      let low = o.before in
+      record { class = o.class; number = o.number; before = omega arith; known = o.known; holds = o.holds; there = left heap xs o.number (state.Object o.class []) o.there; fits = o.fits };
+  apart = fits.apart;
+}
+
+pub later : (w : World) (heap : List Thing) (frame : List Held) (n m : ℕ) (ls : List Local) (hs : List Holds) → n ≤ m → Fits w heap frame n ls hs → Fits w heap frame m ls hs
+later w heap frame n m ls hs le fits = record {
+  objects = λ x l c found class.
+      let o = fits.objects x l c found class in
+      let low = o.before in
+      record { class = o.class; number = o.number; before = omega arith; known = o.known; holds = o.holds; there = o.there; fits = o.fits };
+  apart = fits.apart;
+}
+
+held_other : (n m : ℕ) (a : Value) (frame : List Held) (b : Value) → (m ≡ n → ⊥) → held n frame ≡ Some b → held n (record { node = m; value = a } ∷ frame) ≡ Some b
+held_other n m a frame b other e =
+    let test : m == n ≡ false = grind (arith, nat_tests) in
+    ap (λ t. if t then Some a else held n frame) test ∙ e
+
+held_here : (n m : ℕ) (a : Value) (frame : List Held) → m ≡ n → held n (record { node = m; value = a } ∷ frame) ≡ Some a
+held_here n m a frame e =
+    let test : m == n ≡ true = grind (arith, nat_tests) in
+    ap (λ t. if t then Some a else held n frame) test
+
+-- the variable x, at this node, got the object k, of class c
+module _ (w : World) (heap : List Thing) (frame : List Held) (n m : ℕ) (hs : List Holds) (x : Name) (node c k : ℕ) (there : slice_get heap k ≡ Some (state.Object c [])) where
+  abbrev frame_then : List Held
+  frame_then = record { node = node; value = v.Ref k } ∷ frame
+
+  abbrev holds_then : List Holds
+  holds_then = record { name = x; class = c } ∷ hs
+
+  stored_here : (y : Name) (owner at : ℕ) → (x.0 == y.0) ≡ true → node ≡ at → at < m → Subtype w (ty.Class c []) (ty.Class owner []) → HasObject w heap frame_then m holds_then y at owner
+  stored_here y owner at name same lt below = record {
+    class = c;
+    number = k;
+    before = lt;
+    known = ap (λ b. if b then Some c else class_held hs y) name;
+    holds = held_here at node (v.Ref k) frame same;
+    there = there;
+    fits = below;
+  }
+
+  stored_else : (y : Name) (owner at : ℕ) → (x.0 == y.0) ≡ false → (node ≡ at → ⊥) → n ≤ m → HasObject w heap frame n hs y at owner → HasObject w heap frame_then m holds_then y at owner
+  stored_else y owner at name other le o =
+      let low = o.before in
+      record {
+        class = o.class;
+        number = o.number;
+        before = omega arith;
+        known = ap (λ b. if b then Some c else class_held hs y) name ∙ o.known;
+        holds = held_other at node (v.Ref k) frame (v.Ref o.number) other o.holds;
+        there = o.there;
+        fits = o.fits;
+      }
+
+  -- a local is declared
+  pub fits_declared : (ls : List Local) (l : Local) (owner : ℕ) → l.name ≡ x → l.node ≡ node → l.ty ≡ ty.Class owner [] → n ≤ node → node < m → Subtype w (ty.Class c []) (ty.Class owner [])
+      → Fits w heap frame n ls hs → Fits w heap frame_then m (l ∷ ls) holds_then
+  fits_declared ls l owner name here class le lt below fits = record {
+    objects = λ y q d found of. object y q d (l.name.0 == y.0) refl found of;
+    apart = λ y z q p d e found of found' of' same. two y z q p d e (l.name.0 == y.0) (l.name.0 == z.0) refl refl found of found' of' same;
+  }
+    where
+      test : (y : Name) (b : Bool) → (l.name.0 == y.0) ≡ b → (x.0 == y.0) ≡ b
+      test y b e = ap (λ (z : Name). z.0 == y.0) (sym name) ∙ e
+
+      object : (y : Name) (q : Local) (d : ℕ) (b : Bool) → (l.name.0 == y.0) ≡ b → (if b then Some l else find_local ls y) ≡ Some q → ty.Class d [] ≡ q.ty → HasObject w heap frame_then m holds_then y q.node d
+      object y q d true e found of =
+          let one : l ≡ q = same_Some l q found in
+          let at : node ≡ q.node = sym here ∙ ap (λ (l : Local). l.node) one in
+          let own : ty.Class owner [] ≡ ty.Class d [] = sym class ∙ ap (λ (l : Local). l.ty) one ∙ sym of in
+          stored_here y d q.node (test y true e) at (omega arith) (subst (λ t. Subtype w (ty.Class c []) t) own below)
+      object y q d false e found of =
+          let o = fits.objects y q d found of in
+          let low = o.before in
+          stored_else y d q.node (test y false e) (λ f. absurd (omega arith)) (omega arith) o
+
+      two : (y z : Name) (q p : Local) (d e : ℕ) (b b' : Bool) → (l.name.0 == y.0) ≡ b → (l.name.0 == z.0) ≡ b' → (if b then Some l else find_local ls y) ≡ Some q → ty.Class d [] ≡ q.ty
+          → (if b' then Some l else find_local ls z) ≡ Some p → ty.Class e [] ≡ p.ty → q.node ≡ p.node → y.0 ≡ z.0
+      two y z q p d e true true f f' found of found' of' same = grind (arith, nat_tests)
+      two y z q p d e true false f f' found of found' of' same =
+          let low = (fits.objects z p e found' of').before in
+          let at : l.node ≡ q.node = ap (λ (l : Local). l.node) (same_Some l q found) in
+          absurd (omega arith)
+      two y z q p d e false true f f' found of found' of' same =
+          let low = (fits.objects y q d found of).before in
+          let at : l.node ≡ p.node = ap (λ (l : Local). l.node) (same_Some l p found') in
+          absurd (omega arith)
+      two y z q p d e false false f f' found of found' of' same = fits.apart y z q p d e found of found' of' same
+
+  -- a local is assigned
+  pub fits_assigned : (ls : List Local) (l : Local) (owner : ℕ) → find_local ls x ≡ Some l → ty.Class owner [] ≡ l.ty → l.node ≡ node → n ≤ m → Subtype w (ty.Class c []) (ty.Class owner [])
+      → Fits w heap frame n ls hs → Fits w heap frame_then m ls holds_then
+  fits_assigned ls l owner is class here le below fits = record {
+    objects = λ y q d found of. object y q d (x.0 == y.0) refl found of;
+    apart = fits.apart;
+  }
+    where
+      object : (y : Name) (q : Local) (d : ℕ) (b : Bool) → (x.0 == y.0) ≡ b → find_local ls y ≡ Some q → ty.Class d [] ≡ q.ty → HasObject w heap frame_then m holds_then y q.node d
+      object y q d true e found of =
+          let names : x.0 ≡ y.0 = grind (arith, nat_tests) in
+          let one : l ≡ q = same_Some l q (sym is ∙ ap (λ k. find_local ls (record { 0 = k })) names ∙ found) in
+          let at : node ≡ q.node = sym here ∙ ap (λ (l : Local). l.node) one in
+          let own : ty.Class owner [] ≡ ty.Class d [] = class ∙ ap (λ (l : Local). l.ty) one ∙ sym of in
+          let low = (fits.objects y q d found of).before in
+          stored_here y d q.node e at (omega arith) (subst (λ t. Subtype w (ty.Class c []) t) own below)
+      object y q d false e found of =
+          let other : x.0 ≡ y.0 → ⊥ = grind (arith, nat_tests) in
+          stored_else y d q.node e (λ f. other (fits.apart x y l q owner d is class found of (here ∙ f))) le (fits.objects y q d found of)
 
 -- ---- the method that a call enters
 

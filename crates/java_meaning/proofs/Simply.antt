@@ -1,5 +1,5 @@
 -- The run of a small program by the meaning is the run by its parts.
-use Rattle.std.proofs.Common.{◌≡◌, ℕ, zero, suc, ◌+◌, ◌≤◌, inl, inr, List, [], ◌∷◌, ◌++◌, length, slice_get, Option, Some, None, refl, ap, sym, ◌∙◌, subst, arith}
+use Rattle.std.proofs.Common.{◌≡◌, ℕ, zero, suc, ◌+◌, ◌≤◌, inl, inr, List, [], ◌∷◌, ◌++◌, length, slice_get, Option, Some, refl, ap, sym, ◌∙◌, subst, arith}
 use Rattle.std.specs.Prelude.{unwrap_or}
 use Rattle.java_tree.specs.declared.tree.Name.{Name}
 use Rattle.java_tree.specs.Plain as t
@@ -7,17 +7,18 @@ use Rattle.java_tree.specs.Plain.{TypeExpr, Expr, Param, Stmt, Stmts, SourceUnit
 use Rattle.small_lexer.specs.declared.token.Tok.{Tok}
 use Rattle.small_lexer.specs.Lexing.{Lexes}
 use Rattle.small_parser.specs.Nodes.{stmt_nodes}
-use Rattle.small_parser.specs.Grammar.{AreSteps, IsStep, Spells, local_at, call_at, name_at, type_at, node_of}
+use Rattle.small_parser.specs.Grammar.{AreSteps, IsStep, Spells, local_at, assign_at, call_at, name_at, type_at, node_of}
 use Rattle.class_world.specs.declared.world.World.{World}
 use Rattle.class_world.specs.declared.world.MethodInfo.{MethodInfo}
 use Rattle.class_world.specs.declared.world.JavaType.TheVariants as ty
-use Rattle.class_world.specs.Subtypes.{Subtype, IsClassTree}
+use Rattle.class_world.specs.Subtypes.{Subtype, same as itself, through, IsClassTree}
 use Rattle.class_world.specs.Members.{AreApart}
 use Rattle.class_world.specs.Lookup.{AreLookups}
 use Rattle.java_typing.specs.Main.{main_method, main_steps, params_of}
-use Rattle.java_typing.specs.WorldOf.{world_of}
+use Rattle.java_typing.specs.WorldOf.{world_of, param_type}
 use Rattle.java_typing.specs.Declarations.{DeclarationsHold}
-use Rattle.java_typing.specs.Typing.{Annotates, Local, local_of, scope_after, params_in, StepsHold}
+use Rattle.java_typing.specs.Typing.{Annotates, HasClass, Local, local_of, scope_after, params_in, StepsHold}
+use Rattle.java_typing.specs.declared.table.Use.TheVariants as use_of
 use Rattle.java_typing.specs.Correspond.{Program, IsProgramOf}
 use Rattle.java_values.specs.declared.value.Value.{Value}
 use Rattle.java_values.specs.declared.value.Value.TheVariants as v
@@ -27,21 +28,26 @@ use Rattle.decl_table.proofs.Places.{left}
 use Rattle.check_decl.proofs.Annotated.{Typed, Used, Says, SayAll}
 use Rattle.check_decl.proofs.Constructors.{NoConstructors, none_declared}
 use Rattle.check_decl.proofs.Starts.{arguments_of}
-use Rattle.check_decl.proofs.Steps.{local_says, call_says, steps_of_main}
+use Rattle.check_decl.proofs.Steps.{local_says, assign_says, call_says, steps_of_main}
 use Rattle.java_meaning.specs.Outcome.{Outcome, Gives, Threw, Bound, and_then, with_some, leave}
-use Rattle.java_meaning.specs.Meaning.{Place, Declared, bodies, variable, allocated, called_on, invoked, all_statements, bound_to, enter}
+use Rattle.java_meaning.specs.Meaning.{Place, Declared, bodies, variable, stored, value, allocated, called_on, invoked, all_statements, bound_to, enter}
 use Rattle.java_meaning.specs.Run.{main_number, run, start}
-use Rattle.java_meaning.specs.Simple.{Ran, Course, Goes, Cut, go_on, enters, goes_with, constructs, lines, body_lines, printed, Holds, ArePicks, steps_run, simple_run}
+use Rattle.java_meaning.specs.Simple.{Ran, Course, Goes, Cut, go_on, enters, goes_with, constructs, lines, body_lines, printed, Holds, ArePicks, gives, steps_run, simple_run}
 use Rattle.java_meaning.specs.Meets.{Meets}
 use Rattle.java_meaning.proofs.MethodBodies.{HasBody, behind, all_do, main_body}
 use Rattle.java_meaning.proofs.Constructs.{step_own}
 use Rattle.java_meaning.proofs.Parts.{put, ends, place, call_meets, with_body, no_depth}
 use Rattle.java_meaning.proofs.Creations.{Within, constructs_within, constructed}
-use Rattle.java_meaning.proofs.Scopes.{Fits, start as at_first, more, later, held_here, grown, object_of, entered, chosen_prints}
+use Rattle.java_meaning.proofs.Scopes.{Fits, at_first, grown, later, fits_declared, fits_assigned, entered, chosen_prints}
 
 -- both sides by equations
 met : (c c' : Course) (o o' : Outcome (Unit {0})) → c ≡ c' → o ≡ o' → Meets c' o' → Meets c o
 met c c' o o' e f h = subst (λ c. Meets c o) (sym e) (subst (λ o. Meets c' o) (sym f) h)
+
+then_then : {A B C : Type 0} (o : Outcome A) (f : A → State → Outcome B) (h : B → State → Outcome C) → and_then (and_then o f) h ≡ and_then o (λ a s. and_then (f a s) h)
+then_then (Gives a s) f h = refl
+then_then (Threw k s) f h = refl
+then_then (Bound s) f h = refl
 
 left_meets : (frame : List Held) (c : Course) (o : Outcome (Unit {0})) → Meets c o → Meets c (leave frame o)
 left_meets frame (Goes r) (Gives x s) h = h
@@ -60,57 +66,93 @@ module _ (names : List (List ℕ)) (ts : List Tok) (u : SourceUnit) (tree : IsCl
   Behind d n ls xs = (hs : List Holds) (s : State) (r : Ran) (x : Thing) → Fits (world_of u) s.heap s.frame n ls hs → slice_get s.heap 0 ≡ Some x → r.left ≤ d
       → Meets (steps_run u (world_of u) pick xs hs r) (all_statements (place g d) xs (put s r))
 
-  -- a local holds a value
-  abbrev hold : ℕ → Value → State → Outcome (Unit {0})
-  hold node a s = Gives tt (record s { frame = record { node = node; value = a } ∷ s.frame })
+  -- after the constructors a new object is the value
+  made_meets : (c : Course) (q : ℕ) (s : State) (F : Value → State → Outcome (Unit {0})) (G : Ran → Course) (d : ℕ) → Within d c
+      → ((r : Ran) → r.left ≤ d → Meets (G r) (F (v.Ref q) (put s r)))
+      → Meets (go_on c G) (and_then (and_then (ends c s) (λ done s. Gives (v.Ref q) s)) F)
+  made_meets (Goes r) q s F G d le next = next r le
+  made_meets (Cut r) q s F G d le next = (refl, refl)
 
-  -- after the constructors, a local holds the new object
-  held_meets : (c : Course) (d q node : ℕ) (s : State) (xs : Stmts) (rest : Ran → Course) → Within d c
-      → ((r : Ran) → r.left ≤ d → Meets (rest r) (all_statements (place g d) xs (put (record s { frame = record { node = node; value = v.Ref q } ∷ s.frame }) r)))
-      → Meets (go_on c rest) (and_then
-      (and_then (and_then (ends c s) (λ done s. Gives (v.Ref q) s)) (hold node))
-      (λ u s. all_statements (place g d) xs s))
-  held_meets (Goes r) d q node s xs rest le next = next r le
-  held_meets (Cut r) d q node s xs rest le next = (refl, refl)
+  -- what is left to show where an expression gave an object of a class below this one
+  abbrev Given : ℕ → ℕ → ℕ → List Local → List Holds → State → Thing → (Value → State → Outcome (Unit {0})) → (ℕ → Ran → Course) → Type 0
+  Given d n owner ls hs s x F G = (c k : ℕ) (heap : List Thing) (r : Ran) → slice_get heap k ≡ Some (state.Object c []) → Subtype (world_of u) (ty.Class c []) (ty.Class owner [])
+      → Fits (world_of u) heap s.frame n ls hs → slice_get heap 0 ≡ Some x → r.left ≤ d → Meets (G c r) (F (v.Ref k) (put (record s { heap = heap }) r))
 
-  -- A x = new B();
-  local_meets : (n i d : ℕ) (ls : List Local) (hs : List Holds) (s : State) (r : Ran) (x : Thing) (xs : Stmts) → Says names ts u (world_of u) g.notes ls (local_at names ts n i)
-      → Fits (world_of u) s.heap s.frame n ls hs → slice_get s.heap 0 ≡ Some x → r.left ≤ d
-      → Behind d (n + stmt_nodes (local_at names ts n i)) (scope_after u ls (local_at names ts n i)) xs
-      → Meets (steps_run u (world_of u) pick (t.Then (local_at names ts n i) xs) hs r) (all_statements (place g d) (t.Then (local_at names ts n i) xs) (put s r))
-  local_meets n i d ls hs s r x xs says fits there le next =
+  gives_meet : (e : Expr) (n d owner : ℕ) (ls : List Local) (hs : List Holds) (s : State) (r : Ran) (x : Thing) (F : Value → State → Outcome (Unit {0})) (G : ℕ → Ran → Course)
+      → HasClass (Typed g.notes) (Used g.notes) u (world_of u) ls e owner → Fits (world_of u) s.heap s.frame n ls hs → slice_get s.heap 0 ≡ Some x → r.left ≤ d → Given d n owner ls hs s x F G
+      → Meets (gives u (world_of u) (Some e) hs r G) (and_then (value (place g d) e (put s r)) F)
+  gives_meet (t.Name m y) n d owner ls hs s r x F G (l, found, of, typed, used) fits there le next =
+      let o = fits.objects y l owner found of in
+      let runs : value (place g d) (t.Name m y) (put s r) ≡ Gives (v.Ref o.number) (put s r) =
+      ap (λ q. with_some q (put s r) (λ u. variable u (put s r))) used ∙ ap (λ q. with_some q (put s r) (λ a. Gives a (put s r))) o.holds in
+      met _ _ _ _ (ap (λ q. goes_with q r (λ c. G c r)) o.known) (ap (λ o. and_then o F) runs) (next o.class o.number s.heap r o.there o.fits fits there le)
+  gives_meet (t.New m y t.End) n d owner ls hs s r x F G (c, is, of, typed, k, made, used) fits there le next =
       let w : World = world_of u in
-      let h = local_says (Typed g.notes) (Used g.notes) u w ls names ts n i says in
-      let made = h.is_constructor in
-      let k : ℕ = h.constructor in
-      let c : ℕ = h.right in
       let q : ℕ = length s.heap in
       let object : Thing = state.Object c [] in
       let new : State = record s { heap = s.heap ++ (object ∷ []) } in
-      let holds : Holds = record { name = name_at names ts (i + 1); class = c } in
-      let local : Local = local_of u (type_at names ts (n + 1) i 0) (record { node = node_of names ts (n + 2) (i + 1) (i + 7); name = name_at names ts (i + 1); dims = 0; init = None }) in
-      let behind_one : ℕ = n + stmt_nodes (local_at names ts n i) in
       let last : q ≡ length s.heap + 0 = omega arith in
-      let now : Fits w new.heap (record { node = n + 2; value = v.Ref q } ∷ s.frame) behind_one (local ∷ ls) (holds ∷ hs) =
-      more q refl (omega arith) (held_here (n + 2) (v.Ref q) s.frame) (ap (slice_get (s.heap ++ (object ∷ []))) last ∙ behind s.heap (object ∷ []) 0)
-      (subst (λ o. Subtype w (ty.Class c []) (ty.Class (unwrap_or o 0) [])) (sym h.left_is) h.fits)
-      (grown w s.heap (object ∷ []) s.frame n (n + 2) behind_one (v.Ref q) ls hs (omega arith) (omega arith) fits) in
-      let rest : Ran → Course = λ r. steps_run u w pick xs (holds ∷ hs) r in
-      let course : steps_run u w pick (t.Then (local_at names ts n i) xs) hs r ≡ go_on (constructs (length w.types) w c r) rest =
-      ap (λ o. goes_with o r (λ c. go_on (constructs (length w.types) w c r) (λ r. steps_run u w pick xs (record { name = name_at names ts (i + 1); class = c } ∷ hs) r))) h.right_is in
-      let finish : Outcome Value → Outcome (Unit {0}) = λ o. and_then (and_then o (hold (n + 2))) (λ u s. all_statements (place g d) xs s) in
       let go : ℕ → Value → State → Outcome Value = λ k o s. and_then (enter g d k o [] s) (λ done s. Gives o s) in
-      let in_heap : ℕ → Outcome (Unit {0}) = λ c. finish (go k (v.Ref q) (record (put s r) { heap = s.heap ++ (state.Object c [] ∷ []) })) in
-      let runs : all_statements (place g d) (t.Then (local_at names ts n i) xs) (put s r) ≡ finish (and_then (ends (constructs (length w.types) w c r) new) (λ done s. Gives (v.Ref q) s)) =
-      ap (λ o. finish (with_some o (put s r) (λ u. allocated (place g d) u (put s r) go))) h.uses
-      ∙ ap (λ (w : World). finish (with_some (slice_get w.methods k) (put s r) (λ (info : MethodInfo). go k (v.Ref q) (record (put s r) { heap = s.heap ++ (state.Object info.owner [] ∷ []) })))) worlds
-      ∙ ap (λ o. finish (with_some o (put s r) (λ (info : MethodInfo). go k (v.Ref q) (record (put s r) { heap = s.heap ++ (state.Object info.owner [] ∷ []) })))) made.1
-      ∙ ap in_heap made.2
-      ∙ ap (λ o. finish (and_then o (λ done s. Gives (v.Ref q) s)))
-      (constructed u tree none g same worlds all (length w.types) d c k (v.Ref q) new r le (tree.small c) (step_own u (type_at names ts (n + 4) (i + 4) 0) c h.right_is) made) in
-      met _ _ _ _ course runs
-      (held_meets (constructs (length w.types) w c r) d q (n + 2) new xs rest (constructs_within w (length w.types) c d r le)
-      (λ r le. next (holds ∷ hs) (record new { frame = record { node = n + 2; value = v.Ref q } ∷ s.frame }) r x now (left s.heap (object ∷ []) 0 x there) le))
+      let runs : value (place g d) (t.New m y t.End) (put s r) ≡ and_then (ends (constructs (length w.types) w c r) new) (λ done s. Gives (v.Ref q) s) =
+      ap (λ o. with_some o (put s r) (λ u. allocated (place g d) u (put s r) go)) used
+      ∙ ap (λ (w : World). with_some (slice_get w.methods k) (put s r) (λ (info : MethodInfo). go k (v.Ref q) (record (put s r) { heap = s.heap ++ (state.Object info.owner [] ∷ []) }))) worlds
+      ∙ ap (λ o. with_some o (put s r) (λ (info : MethodInfo). go k (v.Ref q) (record (put s r) { heap = s.heap ++ (state.Object info.owner [] ∷ []) }))) made.1
+      ∙ ap (λ c. go k (v.Ref q) (record (put s r) { heap = s.heap ++ (state.Object c [] ∷ []) })) made.2
+      ∙ ap (λ o. and_then o (λ done s. Gives (v.Ref q) s)) (constructed u tree none g same worlds all (length w.types) d c k (v.Ref q) new r le (tree.small c) (step_own u y c is) made) in
+      met _ _ _ _ (ap (λ o. goes_with o r (λ c. go_on (constructs (length w.types) w c r) (λ r. G c r))) is) (ap (λ o. and_then o F) runs)
+      (made_meets (constructs (length w.types) w c r) q new F (λ r. G c r) d (constructs_within w (length w.types) c d r le)
+      (λ r le. next c q new.heap r (ap (slice_get new.heap) last ∙ behind s.heap (object ∷ []) 0) (subst (λ a. Subtype w (ty.Class c []) a) (sym of) itself)
+      (grown w s.heap (object ∷ []) s.frame n n ls hs (omega arith) fits) (left s.heap (object ∷ []) 0 x there) le))
+  gives_meet _ n d owner ls hs s r x F G has fits there le next = absurd has
+
+  -- a local gets the object that an expression gives
+  stores_meet : (e : Expr) (name : Name) (xs : Stmts) (node n m d owner : ℕ) (ls ls' : List Local) (hs : List Holds) (s : State) (r : Ran) (x : Thing)
+      → HasClass (Typed g.notes) (Used g.notes) u (world_of u) ls e owner → Fits (world_of u) s.heap s.frame n ls hs → slice_get s.heap 0 ≡ Some x → r.left ≤ d
+      → ((c k : ℕ) (heap : List Thing) → slice_get heap k ≡ Some (state.Object c []) → Subtype (world_of u) (ty.Class c []) (ty.Class owner []) → Fits (world_of u) heap s.frame n ls hs
+      → Fits (world_of u) heap (record { node = node; value = v.Ref k } ∷ s.frame) m ls' (record { name = name; class = c } ∷ hs))
+      → Behind d m ls' xs
+      → Meets (gives u (world_of u) (Some e) hs r (λ c r. steps_run u (world_of u) pick xs (record { name = name; class = c } ∷ hs) r))
+      (and_then (value (place g d) e (put s r)) (λ a s. all_statements (place g d) xs (record s { frame = record { node = node; value = a } ∷ s.frame })))
+  stores_meet e name xs node n m d owner ls ls' hs s r x has fits there le after next =
+      gives_meet e n d owner ls hs s r x _ _ has fits there le
+      (λ c k heap r object below now first le.
+      next (record { name = name; class = c } ∷ hs) (record s { heap = heap; frame = record { node = node; value = v.Ref k } ∷ s.frame }) r x (after c k heap object below now) first le)
+
+  -- A x = ..;
+  local_meets : (n i end d : ℕ) (init : Expr) (ls : List Local) (hs : List Holds) (s : State) (r : Ran) (x : Thing) (xs : Stmts)
+      → Says names ts u (world_of u) g.notes ls (local_at names ts n i end init) → Fits (world_of u) s.heap s.frame n ls hs → slice_get s.heap 0 ≡ Some x → r.left ≤ d
+      → Behind d (n + stmt_nodes (local_at names ts n i end init)) (scope_after u ls (local_at names ts n i end init)) xs
+      → Meets (steps_run u (world_of u) pick (t.Then (local_at names ts n i end init) xs) hs r) (all_statements (place g d) (t.Then (local_at names ts n i end init) xs) (put s r))
+  local_meets n i end d init ls hs s r x xs says fits there le next =
+      let w : World = world_of u in
+      let h = local_says (Typed g.notes) (Used g.notes) u w ls names ts n i end init says in
+      let local : Local = local_of u (type_at names ts (n + 1) i 0) (record { node = node_of names ts (n + 2) (i + 1) end; name = name_at names ts (i + 1); dims = 0; init = Some init }) in
+      met _ _ _ _ refl (then_then (value (place g d) init (put s r)) (λ a s. Gives tt (record s { frame = record { node = n + 2; value = a } ∷ s.frame })) (λ u s. all_statements (place g d) xs s))
+      (stores_meet init (name_at names ts (i + 1)) xs (n + 2) n (n + stmt_nodes (local_at names ts n i end init)) d h.right ls (local ∷ ls) hs s r x h.value fits there le
+      (λ k q heap object under now. fits_declared w heap s.frame n (n + stmt_nodes (local_at names ts n i end init)) hs (name_at names ts (i + 1)) (n + 2) k q object ls local h.left refl refl
+      (ap (λ o. ty.Class (unwrap_or o 0) []) h.left_is) (omega arith) (omega arith) (through under h.fits) now)
+      next)
+
+  -- x = ..;
+  assign_meets : (n i end d : ℕ) (from : Expr) (ls : List Local) (hs : List Holds) (s : State) (r : Ran) (x : Thing) (xs : Stmts)
+      → Says names ts u (world_of u) g.notes ls (assign_at names ts n i end from) → Fits (world_of u) s.heap s.frame n ls hs → slice_get s.heap 0 ≡ Some x → r.left ≤ d
+      → Behind d (n + stmt_nodes (assign_at names ts n i end from)) (scope_after u ls (assign_at names ts n i end from)) xs
+      → Meets (steps_run u (world_of u) pick (t.Then (assign_at names ts n i end from) xs) hs r) (all_statements (place g d) (t.Then (assign_at names ts n i end from) xs) (put s r))
+  assign_meets n i end d from ls hs s r x xs says fits there le next =
+      let w : World = world_of u in
+      let h = assign_says (Typed g.notes) (Used g.notes) u w ls names ts n i end from says in
+      let node : ℕ = h.to.local.node in
+      let p : Place = place g d in
+      let runs : all_statements p (t.Then (assign_at names ts n i end from) xs) (put s r)
+      ≡ and_then (value p from (put s r)) (λ a s. all_statements p xs (record s { frame = record { node = node; value = a } ∷ s.frame })) =
+      ap (λ o. and_then (and_then (with_some o (put s r) (λ u. and_then (value p from (put s r)) (λ a s. stored u a s))) (λ a s. Gives tt s)) (λ u s. all_statements p xs s)) h.to.uses
+      ∙ ap (λ o. and_then o (λ u s. all_statements p xs s)) (then_then (value p from (put s r)) (λ a s. stored (use_of.Local node) a s) (λ a s. Gives tt s))
+      ∙ then_then (value p from (put s r)) (λ a s. Gives tt (record s { frame = record { node = node; value = a } ∷ s.frame })) (λ u s. all_statements p xs s) in
+      met _ _ _ _ refl runs
+      (stores_meet from (name_at names ts i) xs node n (n + stmt_nodes (assign_at names ts n i end from)) d h.right ls ls hs s r x h.value fits there le
+      (λ k q heap object under now. fits_assigned w heap s.frame n (n + stmt_nodes (assign_at names ts n i end from)) hs (name_at names ts i) node k q object ls h.to.local h.left h.to.found h.to.same refl
+      (omega arith) (through under h.fits) now)
+      next)
 
   -- x.m();
   calls_meet : (n i d : ℕ) (ls : List Local) (hs : List Holds) (s : State) (r : Ran) (x : Thing) (xs : Stmts) → Says names ts u (world_of u) g.notes ls (call_at names ts n i)
@@ -120,7 +162,7 @@ module _ (names : List (List ℕ)) (ts : List Tok) (u : SourceUnit) (tree : IsCl
   calls_meet n i d ls hs s r x xs says fits there le next =
       let w : World = world_of u in
       let h = call_says (Typed g.notes) (Used g.notes) u w ls names ts n i says in
-      let object = object_of w s.heap s.frame n ls hs (name_at names ts i) h.local h.owner fits h.found h.same in
+      let object = fits.objects (name_at names ts i) h.local h.owner h.found h.same in
       let m : Name = name_at names ts (i + 2) in
       let e = entered w tree apart pick g.find picks lookups object.class h.owner m h.method object.fits h.chosen in
       let does = chosen_prints u g.notes all object.class m e.number e.chosen in
@@ -130,7 +172,7 @@ module _ (names : List (List ℕ)) (ts : List Tok) (u : SourceUnit) (tree : IsCl
       let course : steps_run u w pick (t.Then (call_at names ts n i) xs) hs r ≡ enters e.number r (λ r. rest (record r { out = r.out ++ printed does.body })) =
       ap (λ o. goes_with o r (λ c. goes_with (pick c m) r (λ j. enters j r (λ r. rest (record r { out = r.out ++ lines u j }))))) object.known
       ∙ ap (λ o. goes_with o r (λ j. enters j r (λ r. rest (record r { out = r.out ++ lines u j })))) e.picked
-      ∙ ap (λ b. enters e.number r (λ r. rest (record r { out = r.out ++ body_lines b }))) does.there in
+      ∙ ap (λ b. enters e.number r (λ r. rest (record r { out = r.out ++ body_lines b }))) {y = Some (Declared [] does.body)} does.there in
       let finish : Outcome (Unit {0}) → Outcome (Unit {0}) = λ o. and_then o (λ u s. all_statements p xs s) in
       let runs : all_statements p (t.Then (call_at names ts n i) xs) (put s r) ≡ finish (enter g d e.number o [] (put s r)) =
       ap (λ o. finish (and_then (with_some o (put s r) (λ u. variable u (put s r))) (λ r s. invoked p (g.notes.use_at (n + 1)) r [] s))) h.uses_local
@@ -138,7 +180,8 @@ module _ (names : List (List ℕ)) (ts : List Tok) (u : SourceUnit) (tree : IsCl
       ∙ ap (λ q. finish (invoked p q o [] (put s r))) h.uses
       ∙ ap (λ q. finish (with_some q (put s r) (λ x. called_on p h.method o [] x (put s r)))) object.there
       ∙ ap (λ q. finish (with_some q (put s r) (λ k. enter g d k o [] (put s r)))) e.found in
-      let in_unit : slice_get (bodies g.unit) e.number ≡ Some (Declared [] does.body) = ap (λ (u : SourceUnit). slice_get (bodies u) e.number) same ∙ does.there in
+      let in_unit : slice_get (bodies g.unit) e.number ≡ Some (Declared [] does.body) =
+      subst (λ (u : SourceUnit). slice_get (bodies u) e.number ≡ Some (Declared [] does.body)) (sym same) does.there in
       met _ _ _ _ course runs
       (call_meets g d e.number o s r x does.body le there in_unit does.prints (λ s. all_statements p xs s) rest
       (λ ss r le. next hs (record s { strings = ss }) r x (later w s.heap s.frame n (n + stmt_nodes (call_at names ts n i)) ls hs (omega arith) fits) there le))
@@ -146,11 +189,15 @@ module _ (names : List (List ℕ)) (ts : List Tok) (u : SourceUnit) (tree : IsCl
   one_meets : (y : Stmt) (xs : Stmts) (n i m d : ℕ) (ls : List Local) (hs : List Holds) (s : State) (r : Ran) (x : Thing) → IsStep names ts n y i m → Says names ts u (world_of u) g.notes ls y
       → Fits (world_of u) s.heap s.frame n ls hs → slice_get s.heap 0 ≡ Some x → r.left ≤ d → Behind d (n + stmt_nodes y) (scope_after u ls y) xs
       → Meets (steps_run u (world_of u) pick (t.Then y xs) hs r) (all_statements (place g d) (t.Then y xs) (put s r))
-  one_meets y xs n i m d ls hs s r x (inl (stand, e, end)) says fits there le next =
+  one_meets y xs n i m d ls hs s r x (inl h) says fits there le next =
       subst (λ y. Says names ts u (world_of u) g.notes ls y → Behind d (n + stmt_nodes y) (scope_after u ls y) xs
       → Meets (steps_run u (world_of u) pick (t.Then y xs) hs r) (all_statements (place g d) (t.Then y xs) (put s r)))
-      (sym e) (λ says next. local_meets n i d ls hs s r x xs says fits there le next) says next
-  one_meets y xs n i m d ls hs s r x (inr (stand, e, end)) says fits there le next =
+      (sym h.tree) (λ says next. local_meets n i h.end d h.init ls hs s r x xs says fits there le next) says next
+  one_meets y xs n i m d ls hs s r x (inr (inl h)) says fits there le next =
+      subst (λ y. Says names ts u (world_of u) g.notes ls y → Behind d (n + stmt_nodes y) (scope_after u ls y) xs
+      → Meets (steps_run u (world_of u) pick (t.Then y xs) hs r) (all_statements (place g d) (t.Then y xs) (put s r)))
+      (sym h.tree) (λ says next. assign_meets n i h.end d h.from ls hs s r x xs says fits there le next) says next
+  one_meets y xs n i m d ls hs s r x (inr (inr (stand, e, end))) says fits there le next =
       subst (λ y. Says names ts u (world_of u) g.notes ls y → Behind d (n + stmt_nodes y) (scope_after u ls y) xs
       → Meets (steps_run u (world_of u) pick (t.Then y xs) hs r) (all_statements (place g d) (t.Then y xs) (put s r)))
       (sym e) (λ says next. calls_meet n i d ls hs s r x xs says fits there le next) says next
@@ -180,7 +227,7 @@ simply names text ts u lexes spells declared steps tree pick picks g of args n =
     met _ _ _ _ refl (ap (λ (u : SourceUnit). enter g n (main_number u) v.Null (v.Ref 1 ∷ []) (start args n)) of.unit)
     (by_bound n body (λ d s r heap le. steps_meet names ts u tree declared.apart (none_declared names ts u spells) pick picks g of.unit of.world lookups all
     (main_steps u) main.node main.from main.to d scope main.steps notes.0 [] s r (state.Object 3 [])
-    (subst (λ ps. Fits w s.heap s.frame main.node (params_in (Typed g.notes) (Used g.notes) u w ps) []) (sym a.only) (at_first a.item a.array)) heap le))
+    (subst (λ ps. Fits w s.heap s.frame main.node (params_in (Typed g.notes) (Used g.notes) u w ps) []) (sym a.only) (at_first w s.heap s.frame main.node (record { name = a.param.name; node = a.param.node.id; ty = param_type u a.param }) a.item a.array)) heap le))
   where
     by_bound : (n : ℕ) → slice_get (bodies g.unit) (main_number u) ≡ Some (Declared (params_of (main_method u)) (main_steps u))
         → ((d : ℕ) (s : State) (r : Ran) → slice_get s.heap 0 ≡ Some (state.Object 3 []) → r.left ≤ d → Meets (steps_run u (world_of u) pick (main_steps u) [] r) (all_statements (place g d) (main_steps u) (put s r)))

@@ -21,7 +21,9 @@ use Rattle.decl_table.specs.Classes.{Numbers}
 use Rattle.java_meaning.specs.Meaning as meaning
 use Rattle.java_meaning.specs.Meaning.{Body, bodies, member_body, is_plain_constructor}
 use Rattle.java_meaning.specs.Simple.{Ran, Course, Goes, Cut, Holds, go_on, goes_with, enters, constructs, lines, class_held, ArePicks}
-use Rattle.java_meaning.specs.declared.steps.Creation.{Creation}
+use Rattle.java_meaning.specs.declared.steps.Source.{Source}
+use Rattle.java_meaning.specs.declared.steps.Source.TheVariants as from
+use Rattle.java_meaning.specs.declared.steps.Store.{Store}
 use Rattle.java_meaning.specs.declared.steps.LocalCall.{LocalCall}
 use Rattle.java_meaning.specs.declared.machine.Machine.{Machine}
 use Rattle.java_meaning.specs.declared.machine.Locals.{Locals}
@@ -69,9 +71,14 @@ pub record AreTables (t : Tables) (u : SourceUnit) (pick : ℕ → Name → Opti
   pub steps : map (λ xs. stmts_plain xs.now) t.bodies.items ≡ map body_steps (bodies u)
   pub picks : ArePicks t.declared.now.world pick
 
--- a local gets a new object, and then the rest runs
-abbrev pub creation_run : World → Creation → (List Holds → Ran → Course) → List Holds → Ran → Course
-creation_run w k rest hs r = go_on (constructs (length w.types) w k.class r) (λ r. rest (record { name = k.name; class = k.class } ∷ hs) r)
+-- goes on with the class of the object that a local gets
+abbrev pub source_run : World → Source → List Holds → Ran → (ℕ → Ran → Course) → Course
+source_run w (from.Created c) hs r go = go_on (constructs (length w.types) w c r) (λ r. go c r)
+source_run w (from.Held x) hs r go = goes_with (class_held hs x) r (λ c. go c r)
+
+-- a local gets an object, and then the rest runs
+abbrev pub store_run : World → Store → (List Holds → Ran → Course) → List Holds → Ran → Course
+store_run w k rest hs r = source_run w k.source hs r (λ c r. rest (record { name = k.name; class = c } ∷ hs) r)
 
 -- a method is called on a local, and then the rest runs
 abbrev pub call_run : SourceUnit → (ℕ → Name → Option ℕ) → LocalCall → (List Holds → Ran → Course) → List Holds → Ran → Course
@@ -79,21 +86,16 @@ call_run u pick k rest hs r =
     goes_with (class_held hs k.on) r (λ c. goes_with (pick c k.method) r (λ j. enters j r (λ r. rest hs (record r { out = r.out ++ lines u j }))))
 
 -- a statement that is one of these, or neither
-abbrev pub step_run : SourceUnit → World → (ℕ → Name → Option ℕ) → Option Creation → Option LocalCall → (List Holds → Ran → Course) → List Holds → Ran → Course
-step_run u w pick (Some k) call rest hs r = creation_run w k rest hs r
+abbrev pub step_run : SourceUnit → World → (ℕ → Name → Option ℕ) → Option Store → Option LocalCall → (List Holds → Ran → Course) → List Holds → Ran → Course
+step_run u w pick (Some k) call rest hs r = store_run w k rest hs r
 step_run u w pick None (Some k) rest hs r = call_run u pick k rest hs r
 step_run u w pick None None rest hs r = Goes r
 
--- the locals behind a statement
-abbrev pub held_after : Option Creation → List Holds → List Holds
-held_after (Some k) hs = record { name = k.name; class = k.class } ∷ hs
-held_after None hs = hs
-
--- what is left to run after a statement: the rest, or nothing
-abbrev pub IsNext : Next → Locals → List Holds → Ran → (List Holds → Ran → Course) → Course → Type 0
-IsNext next.On ls hs r rest c = Holding ls hs × (c ≡ rest hs r)
-IsNext next.Done ls hs r rest c = c ≡ Goes r
-IsNext next.AtBound ls hs r rest c = c ≡ Cut r
+-- what is left to run after a statement: the rest with what the locals then hold, or nothing
+abbrev pub IsNext : Next → Locals → Ran → (List Holds → Ran → Course) → Course → Type 0
+IsNext next.On ls r rest c = (hs : List Holds) × Holding ls hs × (c ≡ rest hs r)
+IsNext next.Done ls r rest c = c ≡ Goes r
+IsNext next.AtBound ls r rest c = c ≡ Cut r
 
 -- a run that ended so
 abbrev pub ended : End → Ran → Course

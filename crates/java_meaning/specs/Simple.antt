@@ -1,8 +1,8 @@
--- The run of a small program in which no rule is broken, by its parts: no object is ever null, each has the class of its creation, and nothing is thrown.
+-- The run of a small program in which no rule is broken, by its parts: no local is ever null, each object has the class of its creation, and nothing is thrown.
 use Rattle.std.specs.Prelude.{ℕ, zero, suc, ◌==◌, nat_lt, if◌then◌else◌, List, [], ◌∷◌, ◌++◌, length, Option, Some, None, slice_get}
 use Rattle.java_tree.specs.declared.tree.Name.{Name}
 use Rattle.java_tree.specs.Plain as t
-use Rattle.java_tree.specs.Plain.{Stmts, SourceUnit}
+use Rattle.java_tree.specs.Plain.{Expr, Stmts, SourceUnit}
 use Rattle.class_world.specs.declared.world.World.{World}
 use Rattle.class_world.specs.Members.{IsChosen}
 use Rattle.java_typing.specs.Main.{main_steps}
@@ -56,7 +56,7 @@ body_lines _ = []
 abbrev pub lines : SourceUnit → ℕ → List ℕ
 lines u m = body_lines (slice_get (bodies u) m)
 
--- the class of the object that a local holds
+-- the class of the object that a local got; of those of one name the first in a list is the last that it got
 pub record Holds : Type 0 where
   pub name : Name
   pub class : ℕ
@@ -73,15 +73,18 @@ PickIs w c n None = (k : ℕ) → IsChosen w c n k → ⊥
 abbrev pub ArePicks : World → (ℕ → Name → Option ℕ) → Type 0
 ArePicks w pick = (c : ℕ) (n : Name) → PickIs w c n (pick c n)
 
+-- goes on with the class of the object that an expression gives: of a new one, by its constructors, or of the one that a local holds
+abbrev pub gives : SourceUnit → World → Option Expr → List Holds → Ran → (ℕ → Ran → Course) → Course
+gives u w (Some (t.New n c t.End)) hs r go = goes_with (step_type u c) r (λ c. go_on (constructs (length w.types) w c r) (λ r. go c r))
+gives u w (Some (t.Name n x)) hs r go = goes_with (class_held hs x) r (λ c. go c r)
+gives u w _ hs r go = Goes r
+
 module _ (u : SourceUnit) (w : World) (pick : ℕ → Name → Option ℕ) where
   -- the statements of main
   abbrev pub steps_run : Stmts → List Holds → Ran → Course
   steps_run t.Last hs r = Goes r
-  steps_run (t.Then (t.Local n f c (x ∷ [])) xs) hs r = goes_with (created x.init) r (λ c. go_on (constructs (length w.types) w c r) (λ r. steps_run xs (record { name = x.name; class = c } ∷ hs) r))
-    where
-      created : Option t.Expr → Option ℕ
-      created (Some (t.New n c t.End)) = step_type u c
-      created _ = None
+  steps_run (t.Then (t.Local n f c (x ∷ [])) xs) hs r = gives u w x.init hs r (λ c r. steps_run xs (record { name = x.name; class = c } ∷ hs) r)
+  steps_run (t.Then (t.Value n (t.Assign k None (t.Name m x) e)) xs) hs r = gives u w (Some e) hs r (λ c r. steps_run xs (record { name = x; class = c } ∷ hs) r)
   steps_run (t.Then (t.Value n (t.Call k (t.AnExpr (t.Name rn x)) m t.End)) xs) hs r =
       goes_with (class_held hs x) r (λ c. goes_with (pick c m) r (λ j. enters j r (λ r. steps_run xs hs (record r { out = r.out ++ lines u j }))))
   steps_run (t.Then x xs) hs r = Goes r

@@ -2,20 +2,34 @@
 use Rattle.std.specs.Prelude.{ℕ, List, [], ◌∷◌, ◌++◌, Option, Some, None, option_and_then}
 use Rattle.std.specs.Option.{option_map}
 use Rattle.java_tree.specs.Plain as t
-use Rattle.java_tree.specs.Plain.{Expr, Exprs, Stmt, SourceUnit}
+use Rattle.java_tree.specs.Plain.{Expr, Exprs, Var, Stmt, SourceUnit}
 use Rattle.java_typing.specs.Typing.{step_type}
-use Rattle.java_meaning.specs.declared.steps.Creation.{Creation}
+use Rattle.java_meaning.specs.declared.steps.Source.{Source}
+use Rattle.java_meaning.specs.declared.steps.Source.TheVariants as from
+use Rattle.java_meaning.specs.declared.steps.Store.{Store}
 use Rattle.java_meaning.specs.declared.steps.LocalCall.{LocalCall}
 
--- the class of the object that an expression creates
-abbrev pub created : SourceUnit → Expr → Option ℕ
-created u (t.New n c t.End) = step_type u c
-created u _ = None
+-- the object that an expression gives: a new one, or the one that a local holds
+abbrev pub source_of : SourceUnit → Expr → Option Source
+source_of u (t.New n c t.End) = option_map from.Created (step_type u c)
+source_of u (t.Name n x) = Some (from.Held x)
+source_of u _ = None
 
--- the local that a statement declares, with the class of the object that it creates for it
-abbrev pub creation_of : SourceUnit → Stmt → Option Creation
-creation_of u (t.Local n f c (x ∷ [])) = option_map (λ k. record { name = x.name; class = k }) (option_and_then (created u) x.init)
-creation_of u _ = None
+-- what a declaration of these gives a local
+abbrev pub declared : SourceUnit → List Var → Option Store
+declared u (x ∷ []) = option_map (λ s. record { name = x.name; source = s }) (option_and_then (source_of u) x.init)
+declared u _ = None
+
+-- what an assignment gives a local
+abbrev pub assigned : SourceUnit → Expr → Option Store
+assigned u (t.Assign n None (t.Name m x) e) = option_map (λ s. record { name = x; source = s }) (source_of u e)
+assigned u _ = None
+
+-- what a statement gives a local
+abbrev pub store_of : SourceUnit → Stmt → Option Store
+store_of u (t.Local n f c vs) = declared u vs
+store_of u (t.Value n e) = assigned u e
+store_of u _ = None
 
 -- the call without arguments on a local that a statement is
 abbrev pub call_of : Stmt → Option LocalCall

@@ -97,7 +97,7 @@ impl Machine {
     }
 }
 
-/// The classes of the objects that locals hold, by the numbers of their names. A name that is declared again holds its last object.
+/// The classes of the objects that locals hold, by the numbers of their names. A local that gets another object holds that one.
 #[derive(Drop)]
 pub(crate) struct Locals {
     classes: HashMap<u32, u32>,

@@ -6,20 +6,22 @@ ghost use Rattle.java_tree.specs.Plain as t;
 ghost use Rattle.java_tree.specs.View.{stmt_plain, stmts_plain, unit_plain};
 ghost use Rattle.java_typing.specs.WorldOf.{world_of};
 ghost use Rattle.decl_table.specs.Built.{IsBuilt};
+ghost use Rattle.class_world.specs.declared.world.World.{World};
+ghost use Rattle.java_meaning.specs.declared.steps.Source.TheVariants as sources;
 ghost use Rattle.java_meaning.specs.Steps as spec;
 ghost use Rattle.java_meaning.specs.Simple.{Ran, Course, Holds, ArePicks, enters, steps_run, simple_run};
 ghost use Rattle.java_meaning.specs.Run as runs;
 ghost use Rattle.java_typing.specs.Correspond.{Program, IsProgramOf};
-ghost use Rattle.java_meaning.specs.Runs.{IsChecked, IsRun, ran_of, Holding, AreReady, AreTables, creation_run, call_run, step_run, held_after, IsNext, ended, IsRunOf};
+ghost use Rattle.java_meaning.specs.Runs.{IsChecked, IsRun, ran_of, Holding, AreReady, AreTables, store_run, call_run, step_run, IsNext, ended, IsRunOf};
 ghost use Rattle.java_typing.specs.Main as main;
 
 use crate::bodies::main_number;
 use crate::machine::{Locals, Machine};
-use crate::steps::{Creation, LocalCall, call_of, creation_of};
+use crate::steps::{LocalCall, Source, Store, call_of, store_of};
 use crate::tables::Tables;
 use class_world::find_method;
 use decl_table::Declared;
-use java_tree::tree::{SourceUnit, Stmt};
+use java_tree::tree::{Name, SourceUnit, Stmt};
 use java_tree::{Items, NoMemory};
 use java_typing::main_steps;
 use std::alloc::Global;
@@ -50,19 +52,49 @@ enum Next {
 /// A local gets a new object (JLS 12.5).
 fn create(
     tables: &Tables,
-    creation: Creation,
+    name: Name,
+    class: u32,
     locals: &mut Locals,
     machine: &mut Machine,
 ) -> Result<Next, NoMemory>
     requires { AreReady tables.now }
     ensures { (hs : List Holds) (rest : List Holds → Ran → Course) → Holding locals.old hs
-        → IfOk result (λ next. IsNext next locals.new (record { name = creation.name; class = creation.class } ∷ hs) (ran_of machine.new) rest (creation_run tables.now.declared.now.world creation rest hs (ran_of machine.old))) }
+        → IfOk result (λ next. IsNext next locals.new (ran_of machine.new) rest (store_run tables.now.declared.now.world (record { name = name; source = sources.Created class }) rest hs (ran_of machine.old))) }
 {
-    if !machine.construct(tables, creation.class)? {
+    if !machine.construct(tables, class)? {
         return Ok(Next::AtBound);
     }
-    locals.insert(creation.name, creation.class)?;
+    locals.insert(name, class)?;
     Ok(Next::On)
+}
+
+/// A local gets the object that another holds. Without such a local the run ends here.
+fn copy(name: Name, from: Name, locals: &mut Locals) -> Result<Next, NoMemory>
+    ensures { (w : World) (hs : List Holds) (rest : List Holds → Ran → Course) (r : Ran) → Holding locals.old hs
+        → IfOk result (λ next. IsNext next locals.new r rest (store_run w (record { name = name; source = sources.Held from }) rest hs r)) }
+{
+    let Some(class) = locals.get(from) else {
+        return Ok(Next::Done);
+    };
+    locals.insert(name, class)?;
+    Ok(Next::On)
+}
+
+/// A local gets an object.
+fn store(
+    tables: &Tables,
+    store: Store,
+    locals: &mut Locals,
+    machine: &mut Machine,
+) -> Result<Next, NoMemory>
+    requires { AreReady tables.now }
+    ensures { (hs : List Holds) (rest : List Holds → Ran → Course) → Holding locals.old hs
+        → IfOk result (λ next. IsNext next locals.new (ran_of machine.new) rest (store_run tables.now.declared.now.world store rest hs (ran_of machine.old))) }
+{
+    match store.source {
+        Source::Created(class) => create(tables, store.name, class, locals, machine),
+        Source::Held(from) => copy(store.name, from, locals),
+    }
 }
 
 /// A method is called on a local (JLS 15.12). Without such a local or method the run ends here.
@@ -75,7 +107,7 @@ fn call(
     requires { AreReady tables.now }
     ensures { (u : t.SourceUnit) (pick : ℕ → names.Name → Option ℕ) (hs : List Holds) (rest : List Holds → Ran → Course)
         → AreTables tables.now u pick → Holding locals.now hs
-        → IfOk result (λ next. IsNext next locals.now hs (ran_of machine.new) rest (call_run u pick call rest hs (ran_of machine.old))) }
+        → IfOk result (λ next. IsNext next locals.now (ran_of machine.new) rest (call_run u pick call rest hs (ran_of machine.old))) }
 {
     let Some(class) = locals.get(call.on) else {
         return Ok(Next::Done);
@@ -101,11 +133,11 @@ fn run_step(
     requires { AreReady tables.now }
     ensures { (u : t.SourceUnit) (pick : ℕ → names.Name → Option ℕ) (hs : List Holds) (rest : List Holds → Ran → Course)
         → AreTables tables.now u pick → Holding locals.old hs
-        → IfOk result (λ next. IsNext next locals.new (held_after (spec.creation_of u (stmt_plain step.now)) hs) (ran_of machine.new) rest
-        (step_run u tables.now.declared.now.world pick (spec.creation_of u (stmt_plain step.now)) (spec.call_of (stmt_plain step.now)) rest hs (ran_of machine.old))) }
+        → IfOk result (λ next. IsNext next locals.new (ran_of machine.new) rest
+        (step_run u tables.now.declared.now.world pick (spec.store_of u (stmt_plain step.now)) (spec.call_of (stmt_plain step.now)) rest hs (ran_of machine.old))) }
 {
-    if let Some(creation) = creation_of(&tables.declared.classes, step) {
-        return create(tables, creation, locals, machine);
+    if let Some(given) = store_of(&tables.declared.classes, step) {
+        return store(tables, given, locals, machine);
     }
     match call_of(step) {
         Some(called) => call(tables, called, locals, machine),

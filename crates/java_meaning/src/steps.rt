@@ -1,20 +1,27 @@
-//! What the statements of a small program say, one at a time (JLS 3rd edition, 14.4, 14.8, 15.9 and 15.12).
+//! What the statements of a small program say, one at a time (JLS 3rd edition, 14.4, 14.8, 15.9, 15.12 and 15.26).
 
-ghost use Rattle.std.specs.Prelude.{◌≡◌};
+ghost use Rattle.std.specs.Prelude.{◌≡◌, map};
 ghost use Rattle.std.specs.Option.{option_copied};
 ghost use Rattle.java_tree.specs.Plain as t;
-ghost use Rattle.java_tree.specs.View.{plain, plains, stmt_plain};
+ghost use Rattle.java_tree.specs.View.{plain, plains, stmt_plain, var_plain};
 ghost use Rattle.decl_table.specs.Classes.{Numbers};
 ghost use Rattle.java_meaning.specs.Steps as spec;
 
 use decl_table::ClassTable;
-use java_tree::tree::{Expr, ExprForm, Name, Stmt, StmtForm};
+use java_tree::tree::{Expr, ExprForm, Name, Stmt, StmtForm, Var};
 
-/// A local that is initialised with a new object of a class, by number.
+/// The object that a local gets: a new one of a class, by number, or the one that a local holds.
 #[derive(Clone, Copy)]
-pub(crate) struct Creation {
+pub(crate) enum Source {
+    Created(u32),
+    Held(Name),
+}
+
+/// A local that gets an object, by its declaration or by an assignment.
+#[derive(Clone, Copy)]
+pub(crate) struct Store {
     pub name: Name,
-    pub class: u32,
+    pub source: Source,
 }
 
 /// A call without arguments on a local.
@@ -24,34 +31,65 @@ pub(crate) struct LocalCall {
     pub method: Name,
 }
 
-/// The class of the object that an expression creates (JLS 15.9).
-fn created(classes: &ClassTable, e: &Expr) -> Option<u32>
-    ensures { (u : t.SourceUnit) → Numbers classes.now u → result ≡ spec.created u (plain e.now) }
+/// The object that an expression gives (JLS 6.5.6.1, 15.9).
+fn source_of(classes: &ClassTable, e: &Expr) -> Option<Source>
+    ensures { (u : t.SourceUnit) → Numbers classes.now u → result ≡ spec.source_of u (plain e.now) }
 {
-    let ExprForm::New { ty, args } = &e.form else {
-        return None;
-    };
-    if !args.is_empty() {
-        return None;
+    match &e.form {
+        ExprForm::Name(name) => Some(Source::Held(*name)),
+        ExprForm::New { ty, args } => {
+            if !args.is_empty() {
+                return None;
+            }
+            Some(Source::Created(classes.step_class(ty)?))
+        }
+        _ => None,
     }
-    classes.step_class(ty)
 }
 
-/// What a statement of main creates for a local (JLS 14.4).
-pub(crate) fn creation_of(classes: &ClassTable, step: &Stmt) -> Option<Creation>
-    ensures { (u : t.SourceUnit) → Numbers classes.now u → result ≡ spec.creation_of u (stmt_plain step.now) }
+/// What a declaration gives its local (JLS 14.4).
+fn declared(classes: &ClassTable, vars: &[Var]) -> Option<Store>
+    ensures { (u : t.SourceUnit) → Numbers classes.now u → result ≡ spec.declared u (map var_plain vars.now) }
 {
-    let StmtForm::Local { vars, .. } = &step.form else {
+    let [var] = vars else {
         return None;
     };
-    let [var] = vars.as_slice() else {
-        return None;
-    };
-    let class = created(classes, var.init.as_ref()?)?;
-    Some(Creation {
+    let source = source_of(classes, var.init.as_ref()?)?;
+    Some(Store {
         name: var.name,
-        class,
+        source,
     })
+}
+
+/// What an assignment gives a local (JLS 15.26.1).
+fn assigned(classes: &ClassTable, e: &Expr) -> Option<Store>
+    ensures { (u : t.SourceUnit) → Numbers classes.now u → result ≡ spec.assigned u (plain e.now) }
+{
+    let ExprForm::Assign { op, to, from } = &e.form else {
+        return None;
+    };
+    if op.is_some() {
+        return None;
+    }
+    let ExprForm::Name(name) = &to.get().form else {
+        return None;
+    };
+    let source = source_of(classes, from.get())?;
+    Some(Store {
+        name: *name,
+        source,
+    })
+}
+
+/// What a statement of main gives a local.
+pub(crate) fn store_of(classes: &ClassTable, step: &Stmt) -> Option<Store>
+    ensures { (u : t.SourceUnit) → Numbers classes.now u → result ≡ spec.store_of u (stmt_plain step.now) }
+{
+    match &step.form {
+        StmtForm::Local { vars, .. } => declared(classes, vars.as_slice()),
+        StmtForm::Value(value) => assigned(classes, value),
+        _ => None,
+    }
 }
 
 /// The call on a local that a statement of main is (JLS 14.8).

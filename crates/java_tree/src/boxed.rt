@@ -20,6 +20,17 @@ impl<T> Model for Boxed<T> {
 }
 
 impl<T> Boxed<T> {
+    ghost use Rattle.std.specs.Borrow.{Lends, sem};
+    ghost use Rattle.java_tree.specs.contracts.boxed.Boxed.{the_row};
+
+    /// The value, to be changed in place.
+    pub fn get_mut(&mut self) -> &mut T
+        ensures* lends { sem 𝓛 (Lends (the_row T.row) T.row self.entry result (λ w. w)) }
+        ensures value { result.now ≡ self.old }
+    {
+        &mut self.inner
+    }
+
     pub fn get(&self) -> &T
         ensures { result.now ≡ self.now }
     {

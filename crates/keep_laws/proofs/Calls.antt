@@ -5,7 +5,7 @@ use Rattle.java_tree.specs.declared.tree.Name.{Name}
 use Rattle.java_tree.specs.declared.tree.Node.{Node}
 use Rattle.java_tree.specs.declared.tree.Span.{Span}
 use Rattle.java_tree.specs.Plain as t
-use Rattle.java_tree.specs.Plain.{Stmt, Stmts, SourceUnit}
+use Rattle.java_tree.specs.Plain.{Expr, Stmt, Stmts, SourceUnit}
 use Rattle.small_lexer.specs.declared.token.Tok.{Tok}
 use Rattle.small_lexer.specs.Reads.{text_at, from_at, span_of}
 use Rattle.small_lexer.specs.Replaced.{Change}
@@ -49,12 +49,10 @@ new_before l ls n e = by_test (l.name.0 == n.0) refl
     by_test false is = rw is at e
 
 new_before_step : (u : SourceUnit) (s : Stmt) (ls : List Local) (n : Name) → find_local (scope_after u ls s) n ≡ None → find_local ls n ≡ None
-new_before_step u (t.Block b xs) ls n e = e
 new_before_step u (t.Local b f x []) ls n e = e
 new_before_step u (t.Local b f x (v ∷ [])) ls n e = new_before (local_of u x v) ls n e
 new_before_step u (t.Local b f x (v ∷ v' ∷ vs)) ls n e = e
-new_before_step u (t.Value b x) ls n e = e
-new_before_step u (t.OtherStmt b) ls n e = e
+new_before_step u _ ls n e = e
 
 module _ (names : List (List ℕ)) (ts : List Tok) (c : Change) (u : SourceUnit) (x : q.Local) (target : ℕ) (w : World) (a b : Annotation) where
   abbrev Steps : List Local → Stmts → Type 0
@@ -101,9 +99,9 @@ module _ (names : List (List ℕ)) (ts : List Tok) (c : Change) (u : SourceUnit)
           record { l = there.l; m = there.m; old_find = rw is there.old_find; new_find = rw is_not there.new_find; changed = there.changed }
 
   -- the declaration brings x into scope
-  comes_in_scope : (is : ChangesLocal names ts c u x target) (n i : ℕ) → HasStmt (main_steps u) (local_at names ts n i) → local_at names ts n i ≡ declaration is.declares
+  comes_in_scope : (is : ChangesLocal names ts c u x target) (n i m : ℕ) (e : Expr) → HasStmt (main_steps u) (local_at names ts n i m e) → local_at names ts n i m e ≡ declaration is.declares
       → (ls ms : List Local) → IsThere (before names ts c u x target n i ∷ ls) (after names ts c u x target n i ∷ ms)
-  comes_in_scope is n i has same ls ms =
+  comes_in_scope is n i m e has same ls ms =
       record { l = before names ts c u x target n i; m = after names ts c u x target n i; old_find = rw named refl; new_find = rw named refl; changed = changed }
     where
       d : q.Declares u x
@@ -117,7 +115,7 @@ module _ (names : List (List ℕ)) (ts : List Tok) (c : Change) (u : SourceUnit)
           grind (arith, nat_tests)
 
       changed : IsChanged x target (before names ts c u x target n i) (after names ts c u x target n i)
-      changed = local_changed names ts c u x target is n i has here
+      changed = local_changed names ts c u x target is n i m e has here
 
       named : (text_at ts (i + 1) == x.name.0) ≡ true
       named =
@@ -130,15 +128,18 @@ module _ (names : List (List ℕ)) (ts : List Tok) (c : Change) (u : SourceUnit)
 
   declared : (is : ChangesLocal names ts c u x target) (s : Stmt) (n i j : ℕ) → IsStep names ts n s i j → HasStmt (main_steps u) s → (ls ms : List Local)
       → s ≡ declaration is.declares → IsThereAfter ls ms s
-  declared is s n i j (inl (stand, tree, next)) has ls ms same =
-      subst (λ s. HasStmt (main_steps u) s → s ≡ declaration is.declares → IsThereAfter ls ms s) (sym tree) (λ has same. comes_in_scope is n i has same ls ms) has same
-  declared is s n i j (inr (stand, tree, next)) has ls ms same = absurd (cc (tree, same))
+  declared is s n i j (inl h) has ls ms same =
+      subst (λ s. HasStmt (main_steps u) s → s ≡ declaration is.declares → IsThereAfter ls ms s) (sym h.tree)
+      (λ has same. comes_in_scope is n i h.end h.init has same ls ms) has same
+  declared is s n i j (inr (inl h)) has ls ms same = let tree = h.tree in absurd (cc (tree, same))
+  declared is s n i j (inr (inr (stand, tree, next))) has ls ms same = absurd (cc (tree, same))
 
   stays : (s : Stmt) (n i j : ℕ) → IsStep names ts n s i j → (ls ms : List Local) → Step ls s → IsThere ls ms → IsThereAfter ls ms s
-  stays s n i j (inl (stand, tree, next)) ls ms typed there =
-      subst (λ s. Step ls s → IsThereAfter ls ms s) (sym tree)
+  stays s n i j (inl h) ls ms typed there =
+      subst (λ s. Step ls s → IsThereAfter ls ms s) (sym h.tree)
       (λ typed. still_in_scope (before names ts c u x target n i) (after names ts c u x target n i) ls ms refl typed.2 there) typed
-  stays s n i j (inr (stand, tree, next)) ls ms typed there = subst (IsThereAfter ls ms) (sym tree) there
+  stays s n i j (inr (inl h)) ls ms typed there = subst (IsThereAfter ls ms) (sym h.tree) there
+  stays s n i j (inr (inr (stand, tree, next))) ls ms typed there = subst (IsThereAfter ls ms) (sym tree) there
 
   step_in_scope : (is : ChangesLocal names ts c u x target) (s : Stmt) (ss : Stmts) (n i j : ℕ) → IsStep names ts n s i j → HasStmt (main_steps u) s
       → (ls ms : List Local) → Step ls s → InScope is.declares ls ms (t.Then s ss)

@@ -10,7 +10,7 @@ use Rattle.small_lexer.specs.declared.token.Tok.{Tok}
 use Rattle.small_lexer.specs.Reads.{from_at}
 use Rattle.small_lexer.specs.Replaced.{Change}
 use Rattle.small_parser.specs.Nodes.{stmt_nodes}
-use Rattle.small_parser.specs.Grammar.{node_of, name_at, local_at, IsStep, AreSteps, Spells}
+use Rattle.small_parser.specs.Grammar.{node_of, name_at, new_at, local_at, assign_at, IsValue, IsStep, AreSteps, Spells}
 use Rattle.class_world.specs.declared.world.World.{World}
 use Rattle.class_world.specs.declared.world.JavaType.{JavaType}
 use Rattle.class_world.specs.Subtypes.{IsBelow, IsClassTree, direct, through}
@@ -21,8 +21,8 @@ use Rattle.java_typing.specs.declared.table.Use.TheVariants as use_of
 use Rattle.java_typing.specs.Main.{main_steps, last_type, before_last, statements, params_of, HasStmt}
 use Rattle.java_typing.specs.Main as main_of
 use Rattle.java_typing.specs.WorldOf.{world_of}
-use Rattle.java_typing.specs.Typing.{Local, scope_after, AreTyped, IsStmtTyped, HasType, params_in, Annotation, Annotates, IsPrintTyped, ArePrintsTyped, AreBodiesTyped, AreClassesTyped, IsConstructor}
-use Rattle.java_typing.specs.Correspond.{Program, IsProgramOf, Correspond, UsesAlike, StmtAlike, StmtsAlike, ParamsAlike, MembersAlike, TypesAlike}
+use Rattle.java_typing.specs.Typing.{Local, scope_after, AreTyped, IsStmtTyped, HasClass, params_in, Annotation, Annotates, IsPrintTyped, ArePrintsTyped, AreBodiesTyped, AreClassesTyped, IsConstructor}
+use Rattle.java_typing.specs.Correspond.{Program, IsProgramOf, Correspond, UsesAlike, ExprAlike, StmtAlike, StmtsAlike, ParamsAlike, MembersAlike, TypesAlike}
 use Rattle.java_typing.specs.Correspond as alike
 use Rattle.check_decl.proofs.Constructors.{one_constructor, none_declared}
 use Rattle.constraint_terms.specs.Effect.{expr, param, stmt, stmts, member, decl, generalized}
@@ -30,12 +30,13 @@ use Rattle.constraint_terms.specs.Question as q
 use Rattle.tree_edit.specs.Order.{InOrder}
 use Rattle.tree_edit.proofs.Kept.{main_steps_changed}
 use Rattle.tree_edit.proofs.Standing.{elsewhere_at}
-use Rattle.tree_edit.proofs.MainSteps.{main_is, main_body, local_sorts}
+use Rattle.tree_edit.proofs.MainSteps.{main_is, main_body, new_sorts}
 use Rattle.keep_laws.specs.Kept.{IsNameOf, CallKeeps}
 use Rattle.keep_laws.proofs.SameNames.{step_kept}
 use Rattle.keep_laws.proofs.SameWorld.{unit_alike, world_same}
-use Rattle.keep_laws.proofs.Kept.{changes_local}
-use Rattle.keep_laws.proofs.Steps.{ChangesLocal, made_at}
+use Rattle.keep_laws.proofs.Kept.{changes_local, start_alike}
+use Rattle.keep_laws.proofs.Steps.{ChangesLocal, scopes_alike}
+use Rattle.keep_laws.proofs.Scopes.{AreAlike, still_there}
 use Rattle.keep_laws.proofs.Calls.{calls_keep}
 
 abbrev TypeAt : Annotation → ℕ → JavaType → Type 0
@@ -62,9 +63,7 @@ module _ (g h : Program) (c : Change) where
   same_statements : (b : Option Stmt) → statements (option_map (stmt c) b) ≡ stmts c (statements b)
   same_statements None = refl
   same_statements (Some (t.Block n xs)) = refl
-  same_statements (Some (t.Local n f ty vs)) = refl
-  same_statements (Some (t.Value n x)) = refl
-  same_statements (Some (t.OtherStmt n)) = refl
+  same_statements (Some _) = refl
 
   params_alike : (ps : List Param) → ParamsAlike g h ps (map (param c) ps)
   params_alike [] = tt
@@ -95,19 +94,50 @@ module _ (names : List (List ℕ)) (ts : List Tok) (u : SourceUnit) (x : q.Local
   abbrev New : List Local → Stmt → Type 0
   New = IsStmtTyped (TypeAt h.notes) (UseAt h.notes) (generalized c u) (world_of u)
 
+  abbrev OldType : List Local → Expr → ℕ → Type 0
+  OldType = HasClass (TypeAt g.notes) (UseAt g.notes) u (world_of u)
+
+  abbrev NewType : List Local → Expr → ℕ → Type 0
+  NewType = HasClass (TypeAt h.notes) (UseAt h.notes) (generalized c u) (world_of u)
+
   -- a creation uses the same constructor
-  constructor_same : (n i : ℕ) (ls ms : List Local) → (from_at ts (i + 4) == c.from) ≡ false → Old ls (local_at names ts n i) → New ms (stmt c (local_at names ts n i))
-      → g.notes.use_at (n + 3) ≡ h.notes.use_at (n + 3)
-  constructor_same n i ls ms made (k, step, none, e, init, a, types, sub) (k', step', none', e', init', a', types', sub') =
-      let creation = made_at names ts c u x target n i in
-      let same : e ≡ creation = cc in
-      let same' : e' ≡ expr c creation = cc in
-      let old = subst (λ e. HasType (TypeAt g.notes) (UseAt g.notes) u (world_of u) ls e a) same types in
-      let new = subst (λ e. HasType (TypeAt h.notes) (UseAt h.notes) (generalized c u) (world_of u) ms e a') same' types' in
-      let class : Some old.0 ≡ Some new.0 = sym old.1 ∙ sym (step_kept c names ts u (n + 4) (i + 4) made) ∙ new.1 in
+  constructor_same : (n i : ℕ) (ls ms : List Local) (k k' : ℕ) → (from_at ts (i + 1) == c.from) ≡ false
+      → OldType ls (new_at names ts n i) k → NewType ms (expr c (new_at names ts n i)) k' → g.notes.use_at n ≡ h.notes.use_at n
+  constructor_same n i ls ms k k' made old new =
+      let class : Some old.0 ≡ Some new.0 = sym old.1 ∙ sym (step_kept c names ts u (n + 1) (i + 1) made) ∙ new.1 in
       let one : old.0 ≡ new.0 = cc in
       let by = one_constructor u (none_declared names ts u is.spells) old.0 old.4 new.4 old.5 (subst (λ k. IsConstructor (world_of u) k new.4) (sym one) new.5) in
       old.6 ∙ ap (λ k. Some (use_of.Method k)) by ∙ sym new.6
+
+  -- a name uses the same local
+  local_same : (n : Node) (y : Name) (ls ms : List Local) → AreAlike x target ls ms → (k k' : ℕ) → OldType ls (t.Name n y) k → NewType ms (expr c (t.Name n y)) k'
+      → g.notes.use_at n.id ≡ h.notes.use_at n.id
+  local_same n y ls ms are k k' (l, find, _, _, uses) (l', find', _, _, uses') =
+      let there = still_there x target ls ms are y l find in
+      let same : there.0 ≡ l' = cc (there.1, find') in
+      uses ∙ ap (λ n. Some (use_of.Local n)) (there.2.node ∙ ap (λ (l : Local). l.node) same) ∙ sym uses'
+
+  value_alike : (n i j : ℕ) (e : Expr) → IsValue names ts n e i j → (ls ms : List Local) → AreAlike x target ls ms → (k k' : ℕ) → OldType ls e k → NewType ms (expr c e) k' → ExprAlike g h e (expr c e)
+  value_alike n i j e (inl (stand, tree_is, next)) ls ms are k k' old new =
+      let made = elsewhere_at names ts c is.kept new_sorts i 1 (i + 1) stand refl refl in
+      subst (λ e. OldType ls e k → NewType ms (expr c e) k' → ExprAlike g h e (expr c e)) (sym tree_is)
+      (λ old new. alike.new (constructor_same n i ls ms k k' made old new) alike.end) old new
+  value_alike n i j e (inr (stand, tree_is, next)) ls ms are k k' old new =
+      subst (λ e. OldType ls e k → NewType ms (expr c e) k' → ExprAlike g h e (expr c e)) (sym tree_is)
+      (λ old new. alike.name (local_same (node_of names ts n i (i + 1)) (name_at names ts i) ls ms are k k' old new)) old new
+
+  local_is_alike : (n i m : ℕ) (e : Expr) → IsValue names ts (n + 3) e (i + 3) m → (ls ms : List Local) → AreAlike x target ls ms
+      → Old ls (local_at names ts n i m e) → New ms (stmt c (local_at names ts n i m e)) → StmtAlike g h (local_at names ts n i m e) (stmt c (local_at names ts n i m e))
+  local_is_alike n i m e value ls ms are (k, step, none, e1, init, d, types, sub) (k', step', none', e2, init', d', types', sub') =
+      let same : e1 ≡ e = cc in
+      let same' : e2 ≡ expr c e = cc in
+      alike.local refl refl refl (value_alike (n + 3) (i + 3) m e value ls ms are d d' (subst (λ e. OldType ls e d) same types) (subst (λ e. NewType ms e d') same' types'))
+
+  assign_is_alike : (n i m : ℕ) (e : Expr) → IsValue names ts (n + 3) e (i + 2) m → (ls ms : List Local) → AreAlike x target ls ms
+      → Old ls (assign_at names ts n i m e) → New ms (stmt c (assign_at names ts n i m e)) → StmtAlike g h (assign_at names ts n i m e) (stmt c (assign_at names ts n i m e))
+  assign_is_alike n i m e value ls ms are (k, to, _, d, types, sub) (k', to', _, d', types', sub') =
+      alike.performs (alike.assign (alike.name (local_same (node_of names ts (n + 2) i (i + 1)) (name_at names ts i) ls ms are k k' to to'))
+      (value_alike (n + 3) (i + 2) m e value ls ms are d d' types types'))
 
   -- a call uses the same method, or one that the old one overrides
   uses_alike : (call receiver : Node) (y m : Name) → CallKeeps (world_of u) x target g.notes h.notes call receiver y m → UsesAlike g.world (g.notes.use_at call.id) (h.notes.use_at call.id)
@@ -123,12 +153,13 @@ module _ (names : List (List ℕ)) (ts : List Tok) (u : SourceUnit) (x : q.Local
         ]
   ])
 
-  step_alike : (s : Stmt) (n i j : ℕ) → IsStep names ts n s i j → HasStmt (main_steps u) s → (ls ms : List Local) → Old ls s → New ms (stmt c s) → StmtAlike g h s (stmt c s)
-  step_alike s n i j (inl (stand, tree_is, next)) has ls ms old new =
-      let made = elsewhere_at names ts c is.kept local_sorts i 4 (i + 4) stand refl refl in
-      subst (λ s. Old ls s → New ms (stmt c s) → StmtAlike g h s (stmt c s)) (sym tree_is)
-      (λ old new. alike.local refl refl refl (alike.new (constructor_same n i ls ms made old new) alike.end)) old new
-  step_alike s n i j (inr (stand, tree_is, next)) has ls ms old new =
+  step_alike : (s : Stmt) (n i j : ℕ) → IsStep names ts n s i j → HasStmt (main_steps u) s → (ls ms : List Local) → AreAlike x target ls ms
+      → Old ls s → New ms (stmt c s) → StmtAlike g h s (stmt c s)
+  step_alike s n i j (inl p) has ls ms are old new =
+      subst (λ s. Old ls s → New ms (stmt c s) → StmtAlike g h s (stmt c s)) (sym p.tree) (local_is_alike n i p.end p.init p.value ls ms are) old new
+  step_alike s n i j (inr (inl p)) has ls ms are old new =
+      subst (λ s. Old ls s → New ms (stmt c s) → StmtAlike g h s (stmt c s)) (sym p.tree) (assign_is_alike n i p.end p.from p.value ls ms are) old new
+  step_alike s n i j (inr (inr (stand, tree_is, next))) has ls ms are old new =
       subst (λ s. HasStmt (main_steps u) s → StmtAlike g h s (stmt c s)) (sym tree_is)
       (λ has.
       let keeps = calls_keep names ts u x target c is.order is.spells is.declares is.from is.named tree apart g.notes h.notes old_notes new_notes
@@ -136,12 +167,14 @@ module _ (names : List (List ℕ)) (ts : List Tok) (u : SourceUnit) (x : q.Local
       alike.performs (alike.call (uses_alike (node_of names ts (n + 1) i (i + 5)) (node_of names ts (n + 2) i (i + 1)) (name_at names ts i) (name_at names ts (i + 2)) keeps)
       (alike.name keeps.same_local) alike.end)) has
 
-  steps_alike : (xs : Stmts) (n i j : ℕ) → AreSteps names ts n xs i j → ((s : Stmt) → HasStmt xs s → HasStmt (main_steps u) s) → (ls ms : List Local)
+  steps_alike : (xs : Stmts) (n i j : ℕ) → AreSteps names ts n xs i j → ((s : Stmt) → HasStmt xs s → HasStmt (main_steps u) s) → (ls ms : List Local) → AreAlike x target ls ms
       → AreTyped (TypeAt g.notes) (UseAt g.notes) u (world_of u) ls xs → AreTyped (TypeAt h.notes) (UseAt h.notes) (generalized c u) (world_of u) ms (stmts c xs) → StmtsAlike g h xs (stmts c xs)
-  steps_alike t.Last n i j steps among ls ms old new = alike.last
-  steps_alike (t.Then s ss) n i j (m, step, steps) among ls ms (old, olds) (new, news) =
-      alike.next (step_alike s n i m step (among s (inl refl)) ls ms old new)
-      (steps_alike ss (n + stmt_nodes s) m j steps (λ s has. among s (inr has)) (scope_after u ls s) (scope_after (generalized c u) ms (stmt c s)) olds news)
+  steps_alike t.Last n i j steps among ls ms are old new = alike.last
+  steps_alike (t.Then s ss) n i j (m, step, steps) among ls ms are (old, olds) (new, news) =
+      let has = among s (inl refl) in
+      alike.next (step_alike s n i m step has ls ms are old new)
+      (steps_alike ss (n + stmt_nodes s) m j steps (λ s has. among s (inr has)) (scope_after u ls s) (scope_after (generalized c u) ms (stmt c s))
+      (scopes_alike names ts c u x target is s n i m step has ls ms are) olds news)
 
   main_alike : (d : TypeDecl) → last_type u.types ≡ Some d → MembersAlike g h d.members (map (member c) d.members)
   main_alike d last =
@@ -152,6 +185,7 @@ module _ (names : List (List ℕ)) (ts : List Tok) (u : SourceUnit) (x : q.Local
       let start : List Local = params_in (TypeAt g.notes) (UseAt g.notes) u (world_of u) (params_of (main_of.main_method u)) in
       let new_start : List Local = params_in (TypeAt h.notes) (UseAt h.notes) (generalized c u) (world_of u) (params_of (main_of.main_method (generalized c u))) in
       let steps = steps_alike main.is.body (main.number + 5) (main.place + 14) main.is.end main.is.steps (λ s has. subst (λ xs. HasStmt xs s) (sym body) has) start new_start
+      (start_alike names ts c u x target (TypeAt g.notes) (TypeAt h.notes) (UseAt g.notes) (UseAt h.notes) (world_of u) (world_of u) is)
       (subst (AreTyped (TypeAt g.notes) (UseAt g.notes) u (world_of u) start) body old_notes.0)
       (subst (AreTyped (TypeAt h.notes) (UseAt h.notes) (generalized c u) (world_of u) new_start) (main_steps_changed c u ∙ ap (stmts c) body) news.0) in
       let same : main.decl ≡ d = cc (main.last, last) in

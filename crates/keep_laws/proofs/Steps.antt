@@ -1,26 +1,28 @@
 -- Main is typed after a local's type changes.
-use Rattle.std.proofs.Common.{◌≡◌, ℕ, ◌+◌, ◌==◌, Bool, true, false, List, [], ◌∷◌, Some, None, ◌⊎◌, inl, inr, refl, sym, ap, subst, ◌∙◌, arith}
+use Rattle.std.proofs.Common.{◌≡◌, ℕ, ◌+◌, ◌==◌, Bool, true, false, List, [], ◌∷◌, Some, None, unwrap_or, ◌⊎◌, inl, inr, refl, sym, ap, subst, ◌∙◌, arith}
+use Rattle.std.proofs.lemmas.Bool.{cases_eq}
 use Rattle.std.proofs.lemmas.Bool.Decides.{nat_tests}
 use Rattle.java_tree.specs.declared.tree.Name.{Name}
+use Rattle.java_tree.specs.declared.tree.Node.{Node}
 use Rattle.java_tree.specs.Plain as t
 use Rattle.java_tree.specs.Plain.{TypeExpr, Expr, Var, Stmt, Stmts, TypeDecl, SourceUnit}
 use Rattle.small_lexer.specs.declared.token.Tok.{Tok}
 use Rattle.small_lexer.specs.Reads.{from_at, span_of}
 use Rattle.small_lexer.specs.Replaced.{Change}
 use Rattle.small_parser.specs.Nodes.{stmt_nodes}
-use Rattle.small_parser.specs.Grammar.{node_of, name_at, type_at, local_at, call_at, IsStep, AreSteps, Spells}
+use Rattle.small_parser.specs.Grammar.{node_of, name_at, name_expr, type_at, new_at, local_at, assign_at, call_at, IsValue, IsStep, AreSteps, Spells}
 use Rattle.class_world.specs.declared.world.World.{World}
-use Rattle.class_world.specs.declared.world.JavaType.{JavaType}
 use Rattle.class_world.specs.declared.world.JavaType.TheVariants as ty
-use Rattle.class_world.specs.Subtypes.{Subtype, direct, through, IsBelow}
+use Rattle.class_world.specs.Subtypes.{Subtype, same, direct, through, IsBelow}
+use Rattle.class_world.proofs.Chains.{same_number}
 use Rattle.java_typing.specs.Main.{main_steps, HasStmt}
-use Rattle.java_typing.specs.Typing.{Local, find_local, step_type, local_of, scope_after, HasType, IsStmtTyped, AreTyped}
-use Rattle.constraint_terms.specs.Effect.{expr, var, type, stmt, stmts, generalized}
+use Rattle.java_typing.specs.Typing.{Local, find_local, step_type, scope_after, HasClass, IsStmtTyped, AreTyped}
+use Rattle.constraint_terms.specs.Effect.{expr, type, stmt, stmts, generalized}
 use Rattle.constraint_terms.specs.Question as q
 use Rattle.tree_edit.specs.Order.{InOrder}
 use Rattle.tree_edit.proofs.Standing.{Keeps, elsewhere_at, begins}
-use Rattle.tree_edit.proofs.MainSteps.{local_sorts, one_local}
-use Rattle.keep_laws.specs.Kept.{IsNameOf, AllAnswered}
+use Rattle.tree_edit.proofs.MainSteps.{new_sorts, one_local}
+use Rattle.keep_laws.specs.Kept.{IsNameOf}
 use Rattle.keep_laws.proofs.SameNames.{step_kept, step_changed}
 use Rattle.keep_laws.proofs.Scopes.{IsChanged, IsAlike, AreAlike, still_new, still_there, found_name}
 
@@ -34,20 +36,16 @@ module _ (names : List (List ℕ)) (ts : List Tok) (c : Change) (u : SourceUnit)
     pub named : IsNameOf u c.name target
     pub kept : Keeps ts c
 
-  -- what the local is initialised with whose type is at token i
-  abbrev pub made_at : ℕ → ℕ → Expr
-  made_at n i = t.New (node_of names ts (n + 3) (i + 3) (i + 7)) (type_at names ts (n + 4) (i + 4) 0) t.End
-
-  -- that local
-  abbrev local_var : ℕ → ℕ → Var
-  local_var n i = record { node = node_of names ts (n + 2) (i + 1) (i + 7); name = name_at names ts (i + 1); dims = 0; init = Some (made_at n i) }
+  -- the local whose type is at token i, where the value e ends before token m
+  abbrev local_var : ℕ → ℕ → ℕ → Expr → Var
+  local_var n i m e = record { node = node_of names ts (n + 2) (i + 1) m; name = name_at names ts (i + 1); dims = 0; init = Some e }
 
   -- the local whose type begins at the change is x
-  pub local_is : ChangesLocal → (n i : ℕ) → HasStmt (main_steps u) (local_at names ts n i) → (from_at ts i == c.from) ≡ true
+  pub local_is : ChangesLocal → (n i m : ℕ) (e : Expr) → HasStmt (main_steps u) (local_at names ts n i m e) → (from_at ts i == c.from) ≡ true
       → (name_at names ts (i + 1) ≡ x.name) × (step_type u (type_at names ts (n + 1) i 0) ≡ Some x.ty)
-  local_is is n i has here =
+  local_is is n i m e has here =
       let same_type : t.Written d.type_node d.written x.head d.args d.dims ≡ type_at names ts (n + 1) i 0 = cc same in
-      let same_var : d.var ≡ local_var n i = cc same in
+      let same_var : d.var ≡ local_var n i m e = cc same in
       (sym (ap (λ (v : Var). v.name) same_var) ∙ d.name, sym (ap (step_type u) same_type) ∙ d.ty)
     where
       d : q.Declares u x
@@ -59,27 +57,27 @@ module _ (names : List (List ℕ)) (ts : List Tok) (c : Change) (u : SourceUnit)
       at : x.head.from ≡ (span_of ts i (i + 1)).from
       at = sym is.from ∙ sym begins_here ∙ sym (begins ts i (i + 1))
 
-      same : t.Local d.node d.is_final (t.Written d.type_node d.written x.head d.args d.dims) (d.var ∷ []) ≡ local_at names ts n i
-      same = one_local names ts is.order u is.spells _ (local_at names ts n i) d.stands has x.head (span_of ts i (i + 1)) refl refl at
+      same : t.Local d.node d.is_final (t.Written d.type_node d.written x.head d.args d.dims) (d.var ∷ []) ≡ local_at names ts n i m e
+      same = one_local names ts is.order u is.spells _ (local_at names ts n i m e) d.stands has x.head (span_of ts i (i + 1)) refl refl at
 
   -- that local in scope, before and after
   abbrev pub before : ℕ → ℕ → Local
-  before n i = local_of u (type_at names ts (n + 1) i 0) (local_var n i)
+  before n i = record { name = name_at names ts (i + 1); node = n + 2; ty = ty.Class (unwrap_or (step_type u (type_at names ts (n + 1) i 0)) 0) [] }
 
   abbrev pub after : ℕ → ℕ → Local
-  after n i = local_of (generalized c u) (type c (type_at names ts (n + 1) i 0)) (var c (local_var n i))
+  after n i = record { name = name_at names ts (i + 1); node = n + 2; ty = ty.Class (unwrap_or (step_type (generalized c u) (type c (type_at names ts (n + 1) i 0))) 0) [] }
 
-  pub local_changed : ChangesLocal → (n i : ℕ) → HasStmt (main_steps u) (local_at names ts n i) → (from_at ts i == c.from) ≡ true
+  pub local_changed : ChangesLocal → (n i m : ℕ) (e : Expr) → HasStmt (main_steps u) (local_at names ts n i m e) → (from_at ts i == c.from) ≡ true
       → IsChanged x target (before n i) (after n i)
-  local_changed is n i has here =
-      let at = local_is is n i has here in
+  local_changed is n i m e has here =
+      let at = local_is is n i m e has here in
       record { name = at.0; old = rw at.1 refl; new = rw (step_changed c names ts u (n + 1) i target is.named here) refl }
 
-  pub local_alike : ChangesLocal → (n i : ℕ) → HasStmt (main_steps u) (local_at names ts n i) → IsAlike x target (before n i) (after n i)
-  local_alike is n i has = record { name = refl; node = refl; ty = by_test (from_at ts i == c.from) refl }
+  local_alike : ChangesLocal → (n i m : ℕ) (e : Expr) → HasStmt (main_steps u) (local_at names ts n i m e) → IsAlike x target (before n i) (after n i)
+  local_alike is n i m e has = record { name = refl; node = refl; ty = by_test (from_at ts i == c.from) refl }
     where
       by_test : (b : Bool) → (from_at ts i == c.from) ≡ b → ((before n i).ty ≡ (after n i).ty) ⊎ IsChanged x target (before n i) (after n i)
-      by_test true here = inr (local_changed is n i has here)
+      by_test true here = inr (local_changed is n i m e has here)
       by_test false here = inl (rw (step_kept c names ts u (n + 1) i here) refl)
 
   abbrev AlikeAfter : List Local → List Local → Stmt → Type 0
@@ -88,16 +86,41 @@ module _ (names : List (List ℕ)) (ts : List Tok) (c : Change) (u : SourceUnit)
   -- the scopes behind a statement are alike
   pub scopes_alike : ChangesLocal → (s : Stmt) (n i j : ℕ) → IsStep names ts n s i j → HasStmt (main_steps u) s → (ls ms : List Local) → AreAlike x target ls ms
       → AreAlike x target (scope_after u ls s) (scope_after (generalized c u) ms (stmt c s))
-  scopes_alike is s n i j (inl (stand, tree, next)) has ls ms alike =
-      subst (λ s. HasStmt (main_steps u) s → AlikeAfter ls ms s) (sym tree) (λ has. (local_alike is n i has, alike)) has
-  scopes_alike is s n i j (inr (stand, tree, next)) has ls ms alike = subst (AlikeAfter ls ms) (sym tree) alike
+  scopes_alike is s n i j (inl h) has ls ms alike =
+      subst (λ s. HasStmt (main_steps u) s → AlikeAfter ls ms s) (sym h.tree) (λ has. (local_alike is n i h.end h.init has, alike)) has
+  scopes_alike is s n i j (inr (inl h)) has ls ms alike = subst (AlikeAfter ls ms) (sym h.tree) alike
+  scopes_alike is s n i j (inr (inr (stand, tree, next))) has ls ms alike = subst (AlikeAfter ls ms) (sym tree) alike
 
-  module _ (w : World) (below : IsBelow w x.ty target) (answered : AllAnswered u w x target) where
-    abbrev Types : List Local → Expr → JavaType → Type 0
-    Types = HasType (λ n a. Unit {0}) (λ n x. Unit {0}) u w
+  -- ---- the locals in scope that are of classes
 
-    abbrev StillTypes : List Local → Expr → JavaType → Type 0
-    StillTypes = HasType (λ n a. Unit {0}) (λ n x. Unit {0}) (generalized c u) w
+  -- main declares it
+  abbrev pub IsDeclared : Local → Type 0
+  IsDeclared l = (k : ℕ) → l.ty ≡ ty.Class k [] → (to : q.Local) × q.Declares u to × (to.name ≡ l.name) × (to.ty ≡ k)
+
+  abbrev pub AreDeclared : List Local → Type 0
+  AreDeclared [] = Unit {0}
+  AreDeclared (l ∷ ls) = IsDeclared l × AreDeclared ls
+
+  found_declared : (ls : List Local) → AreDeclared ls → (n : Name) (l : Local) → find_local ls n ≡ Some l → IsDeclared l
+  found_declared [] declared n l e = absurd (cc)
+  found_declared (k ∷ ls) (first, rest) n l e = by_test (k.name.0 == n.0) refl (found_declared ls rest n l)
+    where
+      by_test : (b : Bool) → (k.name.0 == n.0) ≡ b → (find_local ls n ≡ Some l → IsDeclared l) → IsDeclared l
+      by_test true is behind = let one : k ≡ l = cc (rw is at e) in subst IsDeclared one first
+      by_test false is behind = behind (rw is at e)
+
+  -- a local of main, as the question on it has it
+  declared_at : (n i m k : ℕ) (e : Expr) → HasStmt (main_steps u) (local_at names ts n i m e) → step_type u (type_at names ts (n + 1) i 0) ≡ Some k
+      → q.Declares u (record { name = name_at names ts (i + 1); head = span_of ts i (i + 1); ty = k })
+  declared_at n i m k e has step =
+      record { node = _; is_final = _; type_node = _; written = _; args = _; dims = _; var = local_var n i m e; stands = has; name = refl; ty = step }
+
+  module _ (w : World) (below : IsBelow w x.ty target) (met : q.AreMet u w x target) where
+    abbrev Types : List Local → Expr → ℕ → Type 0
+    Types = HasClass (λ n a. Unit {0}) (λ n x. Unit {0}) u w
+
+    abbrev StillTypes : List Local → Expr → ℕ → Type 0
+    StillTypes = HasClass (λ n a. Unit {0}) (λ n x. Unit {0}) (generalized c u) w
 
     abbrev IsTyped : List Local → Stmt → Type 0
     IsTyped = IsStmtTyped (λ n a. Unit {0}) (λ n x. Unit {0}) u w
@@ -105,63 +128,168 @@ module _ (names : List (List ℕ)) (ts : List Tok) (c : Change) (u : SourceUnit)
     abbrev IsStillTyped : List Local → Stmt → Type 0
     IsStillTyped = IsStmtTyped (λ n a. Unit {0}) (λ n x. Unit {0}) (generalized c u) w
 
+    above : Subtype w (ty.Class x.ty []) (ty.Class target [])
+    above = through (direct below.1) below.2
+
+    -- ---- values
+
+    -- the value is x, which has its old type before and the new one after
+    record IsX (ls ms : List Local) (e : Expr) (k : ℕ) : Type 0 where
+      node : Node
+      name : e ≡ t.Name node x.name
+      old : k ≡ x.ty
+      l : Local
+      old_find : find_local ls x.name ≡ Some l
+      m : Local
+      new_find : find_local ms x.name ≡ Some m
+      new : ty.Class target [] ≡ m.ty
+      still : StillTypes ms (expr c e) target
+
+    abbrev IsKept : List Local → List Local → Expr → ℕ → Type 0
+    IsKept ls ms e k = StillTypes ms (expr c e) k ⊎ IsX ls ms e k
+
+    name_kept : (n : Node) (y : Name) (ls ms : List Local) → AreAlike x target ls ms → (k : ℕ) → Types ls (t.Name n y) k → IsKept ls ms (t.Name n y) k
+    name_kept n y ls ms alike k (l, find, is, _, _) = by_type there.2.ty
+      where
+        there : (m : Local) × (find_local ms y ≡ Some m) × IsAlike x target l m
+        there = still_there x target ls ms alike y l find
+
+        by_type : (l.ty ≡ there.0.ty) ⊎ IsChanged x target l there.0 → IsKept ls ms (t.Name n y) k
+        by_type (inl kept) = inl (there.0, there.1, is ∙ kept, tt, tt)
+        by_type (inr changed) =
+            let name : y ≡ x.name = sym (found_name ls y l find) ∙ changed.name in
+            inr (record {
+              node = n;
+              name = ap (t.Name n) name;
+              old = (same_number k x.ty [] [] (is ∙ changed.old)).0;
+              l = l;
+              old_find = subst (λ y. find_local ls y ≡ Some l) name find;
+              m = there.0;
+              new_find = subst (λ y. find_local ms y ≡ Some there.0) name there.1;
+              new = sym changed.new;
+              still = (there.0, there.1, sym changed.new, tt, tt);
+            })
+
+    new_kept : (n i : ℕ) → (from_at ts (i + 1) == c.from) ≡ false → (ls ms : List Local) (k : ℕ) → Types ls (new_at names ts n i) k → StillTypes ms (expr c (new_at names ts n i)) k
+    new_kept n i made ls ms k (d, step, class, _, m, constructor, _) = (d, step_kept c names ts u (n + 1) (i + 1) made ∙ step, class, tt, m, constructor, tt)
+
+    value_kept : ChangesLocal → (n i j : ℕ) (e : Expr) → IsValue names ts n e i j → (ls ms : List Local) → AreAlike x target ls ms → (k : ℕ) → Types ls e k → IsKept ls ms e k
+    value_kept is n i j e (inl (stand, tree, next)) ls ms alike k types =
+        let made = elsewhere_at names ts c is.kept new_sorts i 1 (i + 1) stand refl refl in
+        subst (λ e. Types ls e k → IsKept ls ms e k) (sym tree) (λ types. inl (new_kept n i made ls ms k types)) types
+    value_kept is n i j e (inr (stand, tree, next)) ls ms alike k types =
+        subst (λ e. Types ls e k → IsKept ls ms e k) (sym tree) (name_kept (node_of names ts n i (i + 1)) (name_at names ts i) ls ms alike k) types
+
+    -- ---- statements
+
+    local_kept : ChangesLocal → (n i m : ℕ) (e : Expr) → HasStmt (main_steps u) (local_at names ts n i m e) → IsValue names ts (n + 3) e (i + 3) m
+        → (ls ms : List Local) → AreAlike x target ls ms → IsTyped ls (local_at names ts n i m e) → IsStillTyped ms (stmt c (local_at names ts n i m e))
+    local_kept is n i m e has value ls ms alike (k, step, none, e', init, d, types, sub) =
+        by_test (from_at ts i == c.from) refl (value_kept is (n + 3) (i + 3) m e value ls ms alike d (subst (λ e. Types ls e d) same_value types))
+      where
+        same_value : e' ≡ e
+        same_value = cc
+
+        still_none : find_local ms (name_at names ts (i + 1)) ≡ None
+        still_none = still_new x target ls ms alike (name_at names ts (i + 1)) none
+
+        fits : IsX ls ms e d → Subtype w (ty.Class target []) (ty.Class k [])
+        fits v =
+            met.1 (record { name = name_at names ts (i + 1); head = span_of ts i (i + 1); ty = k }) v.node (declared_at n i m k e has step)
+            (λ named. let found = v.old_find in cc (none, found, named)) (q.by_initialiser _ _ _ (local_var n i m e) has refl (ap Some v.name))
+
+        by_test : (b : Bool) → (from_at ts i == c.from) ≡ b → IsKept ls ms e d → IsStillTyped ms (stmt c (local_at names ts n i m e))
+        by_test true here (inl still) =
+            let old = (local_is is n i m e has here).1 in
+            let class : k ≡ x.ty = cc (step, old) in
+            let to_old = subst (λ k. Subtype w (ty.Class d []) (ty.Class k [])) class sub in
+            (target, step_changed c names ts u (n + 1) i target is.named here, still_none, expr c e, refl, d, still, through to_old above)
+        by_test true here (inr v) = (target, step_changed c names ts u (n + 1) i target is.named here, still_none, expr c e, refl, target, v.still, same)
+        by_test false here (inl still) = (k, step_kept c names ts u (n + 1) i here ∙ step, still_none, expr c e, refl, d, still, sub)
+        by_test false here (inr v) = (k, step_kept c names ts u (n + 1) i here ∙ step, still_none, expr c e, refl, target, v.still, fits v)
+
+    assign_kept : ChangesLocal → (n i m : ℕ) (e : Expr) → HasStmt (main_steps u) (assign_at names ts n i m e) → IsValue names ts (n + 3) e (i + 2) m
+        → (ls ms : List Local) → AreAlike x target ls ms → AreDeclared ls → IsTyped ls (assign_at names ts n i m e) → IsStillTyped ms (stmt c (assign_at names ts n i m e))
+    assign_kept is n i m e has value ls ms alike declared (k, (l, find, is_type, _, _), _, d, types, sub) =
+        by_kept (name_kept (node_of names ts (n + 2) i (i + 1)) (name_at names ts i) ls ms alike k (l, find, is_type, tt, tt)) (value_kept is (n + 3) (i + 2) m e value ls ms alike d types)
+      where
+        -- x flows to another local
+        fits : IsX ls ms e d → (name_at names ts i ≡ x.name → ⊥) → Subtype w (ty.Class target []) (ty.Class k [])
+        fits v other =
+            let to = found_declared ls declared (name_at names ts i) l find k (sym is_type) in
+            let named : to.0.name ≡ name_at names ts i = to.2 ∙ found_name ls (name_at names ts i) l find in
+            let flows : q.FlowsTo u (name_at names ts i) (t.Name v.node x.name) = subst (q.FlowsTo u (name_at names ts i)) v.name (q.by_assignment _ _ _ has) in
+            let into = met.1 to.0 v.node to.1 (λ e. other (sym named ∙ e)) (subst (λ y. q.FlowsTo u y (t.Name v.node x.name)) (sym named) flows) in
+            subst (λ k. Subtype w (ty.Class target []) (ty.Class k [])) to.3 into
+
+        -- x flows to a local whose type does not change
+        by_name : IsX ls ms e d → (m : Local) → find_local ms (name_at names ts i) ≡ Some m → ty.Class k [] ≡ m.ty
+            → ((name_at names ts i).0 ≡ x.name.0) ⊎ ((name_at names ts i).0 ≡ x.name.0 → ⊥) → Subtype w (ty.Class target []) (ty.Class k [])
+        by_name v m found new_type (inl number) =
+            let named : name_at names ts i ≡ x.name = ap (λ (n : ℕ). record { 0 = n }) number in
+            let new_find = v.new_find in
+            let one : m ≡ v.m = cc (found, named, new_find) in
+            let class : k ≡ target = (same_number k target [] [] (new_type ∙ ap (λ (l : Local). l.ty) one ∙ sym v.new)).0 in
+            subst (λ k. Subtype w (ty.Class target []) (ty.Class k [])) (sym class) same
+        by_name v m found new_type (inr other) = fits v (λ e. other (ap (λ (n : Name). n.0) e))
+
+        by_kept : IsKept ls ms (name_expr names ts (n + 2) i) k → IsKept ls ms e d → IsStillTyped ms (stmt c (assign_at names ts n i m e))
+        by_kept (inl still) (inl from) = (k, still, tt, d, from, sub)
+        by_kept (inl still) (inr v) = (k, still, tt, target, v.still, by_name v still.0 still.1 still.2 (cases_eq (name_at names ts i).0 x.name.0))
+        by_kept (inr to) (inl from) =
+            let to_old = subst (λ k. Subtype w (ty.Class d []) (ty.Class k [])) to.old sub in
+            (target, to.still, tt, d, from, through to_old above)
+        by_kept (inr to) (inr v) = (target, to.still, tt, target, v.still, same)
+
     -- the call at token i, on a name
     abbrev call_of : ℕ → ℕ → Name → Stmt
     call_of n i y = t.Value (node_of names ts n i (i + 6))
         (t.Call (node_of names ts (n + 1) i (i + 5)) (t.AnExpr (t.Name (node_of names ts (n + 2) i (i + 1)) y)) (name_at names ts (i + 2)) t.End)
 
-    -- ---- statements
-
-    made_kept : (n i : ℕ) → (from_at ts (i + 4) == c.from) ≡ false → (ls ms : List Local) (a : JavaType) → Types ls (made_at n i) a → StillTypes ms (expr c (made_at n i)) a
-    made_kept n i made ls ms a (k, step, class, _, m, constructor, _) = (k, step_kept c names ts u (n + 4) (i + 4) made ∙ step, class, tt, m, constructor, tt)
-
-    local_kept : ChangesLocal → (n i : ℕ) → HasStmt (main_steps u) (local_at names ts n i) → (from_at ts (i + 4) == c.from) ≡ false
-        → (ls ms : List Local) → AreAlike x target ls ms → IsTyped ls (local_at names ts n i) → IsStillTyped ms (stmt c (local_at names ts n i))
-    local_kept is n i has made ls ms alike (k, step, none, e, init, a, types, sub) = by_test (from_at ts i == c.from) refl
-      where
-        still_none : find_local ms (name_at names ts (i + 1)) ≡ None
-        still_none = still_new x target ls ms alike (name_at names ts (i + 1)) none
-
-        still_types : StillTypes ms (expr c (made_at n i)) a
-        still_types = let same : e ≡ made_at n i = cc in made_kept n i made ls ms a (subst (λ e. Types ls e a) same types)
-
-        by_test : (b : Bool) → (from_at ts i == c.from) ≡ b → IsStillTyped ms (stmt c (local_at names ts n i))
-        by_test true here =
-            let old = (local_is is n i has here).1 in
-            let same : k ≡ x.ty = cc (step, old) in
-            let above = subst (λ k. Subtype w (ty.Class k []) (ty.Class target [])) (sym same) (through (direct below.1) below.2) in
-            (target, step_changed c names ts u (n + 1) i target is.named here, still_none, expr c (made_at n i), refl, a, still_types, through sub above)
-        by_test false here = (k, step_kept c names ts u (n + 1) i here ∙ step, still_none, expr c (made_at n i), refl, a, still_types, sub)
-
     call_kept : (n i : ℕ) → HasStmt (main_steps u) (call_at names ts n i)
         → (ls ms : List Local) → AreAlike x target ls ms → IsTyped ls (call_at names ts n i) → IsStillTyped ms (stmt c (call_at names ts n i))
-    call_kept n i has ls ms alike (k, (l, find, type, _, _), m, chosen, _) = by_type there.2.ty
+    call_kept n i has ls ms alike (k, on, m, chosen, _) = by_kept (name_kept (node_of names ts (n + 2) i (i + 1)) (name_at names ts i) ls ms alike k on)
       where
-        there : (m : Local) × (find_local ms (name_at names ts i) ≡ Some m) × IsAlike x target l m
-        there = still_there x target ls ms alike (name_at names ts i) l find
-
-        by_type : (l.ty ≡ there.0.ty) ⊎ IsChanged x target l there.0 → IsStillTyped ms (stmt c (call_at names ts n i))
-        by_type (inl same) = (k, (there.0, there.1, type ∙ same, tt, tt), m, chosen, tt)
-        by_type (inr changed) =
-            let name : name_at names ts i ≡ x.name = sym (found_name ls (name_at names ts i) l find) ∙ changed.name in
+        by_kept : IsKept ls ms (t.Name (node_of names ts (n + 2) i (i + 1)) (name_at names ts i)) k → IsStillTyped ms (stmt c (call_at names ts n i))
+        by_kept (inl still) = (k, still, m, chosen, tt)
+        by_kept (inr v) =
+            let is_x = v.name in
+            let name : name_at names ts i ≡ x.name = cc is_x in
             let on_x : HasStmt (main_steps u) (call_of n i x.name) = subst (λ y. HasStmt (main_steps u) (call_of n i y)) name has in
-            let answer = answered (node_of names ts n i (i + 6)) (node_of names ts (n + 1) i (i + 5)) (node_of names ts (n + 2) i (i + 1)) (name_at names ts (i + 2)) on_x in
-            (target, (there.0, there.1, sym changed.new, tt, tt), answer.0, answer.1, tt)
+            let answer = met.0 (node_of names ts n i (i + 6)) (node_of names ts (n + 1) i (i + 5)) (node_of names ts (n + 2) i (i + 1)) (name_at names ts (i + 2)) on_x in
+            (target, v.still, answer.0, answer.1, tt)
 
-    step_holds : ChangesLocal → (s : Stmt) (n i j : ℕ) → IsStep names ts n s i j → HasStmt (main_steps u) s → (ls ms : List Local) → AreAlike x target ls ms
+    step_holds : ChangesLocal → (s : Stmt) (n i j : ℕ) → IsStep names ts n s i j → HasStmt (main_steps u) s → (ls ms : List Local) → AreAlike x target ls ms → AreDeclared ls
         → IsTyped ls s → IsStillTyped ms (stmt c s)
-    step_holds is s n i j (inl (stand, tree, next)) has ls ms alike typed =
-        let made = elsewhere_at names ts c is.kept local_sorts i 4 (i + 4) stand refl refl in
-        subst (λ s. HasStmt (main_steps u) s → IsTyped ls s → IsStillTyped ms (stmt c s)) (sym tree) (λ has typed. local_kept is n i has made ls ms alike typed) has typed
-    step_holds is s n i j (inr (stand, tree, next)) has ls ms alike typed =
+    step_holds is s n i j (inl h) has ls ms alike declared typed =
+        subst (λ s. HasStmt (main_steps u) s → IsTyped ls s → IsStillTyped ms (stmt c s)) (sym h.tree)
+        (λ has typed. local_kept is n i h.end h.init has h.value ls ms alike typed) has typed
+    step_holds is s n i j (inr (inl h)) has ls ms alike declared typed =
+        subst (λ s. HasStmt (main_steps u) s → IsTyped ls s → IsStillTyped ms (stmt c s)) (sym h.tree)
+        (λ has typed. assign_kept is n i h.end h.from has h.value ls ms alike declared typed) has typed
+    step_holds is s n i j (inr (inr (stand, tree, next))) has ls ms alike declared typed =
         subst (λ s. HasStmt (main_steps u) s → IsTyped ls s → IsStillTyped ms (stmt c s)) (sym tree) (λ has typed. call_kept n i has ls ms alike typed) has typed
 
+    -- the locals in scope behind a statement are declared too
+    local_declared : (n i m : ℕ) (e : Expr) → HasStmt (main_steps u) (local_at names ts n i m e) → (ls : List Local) → IsTyped ls (local_at names ts n i m e) → IsDeclared (before n i)
+    local_declared n i m e has ls typed j is =
+        let class : typed.0 ≡ j = (same_number typed.0 j [] [] (rw typed.1 at is)).0 in
+        (record { name = name_at names ts (i + 1); head = span_of ts i (i + 1); ty = typed.0 }, declared_at n i m typed.0 e has typed.1, refl, class)
+
+    declared_after : (s : Stmt) (n i j : ℕ) → IsStep names ts n s i j → HasStmt (main_steps u) s → (ls : List Local) → IsTyped ls s → AreDeclared ls → AreDeclared (scope_after u ls s)
+    declared_after s n i j (inl h) has ls typed declared =
+        subst (λ s. HasStmt (main_steps u) s → IsTyped ls s → AreDeclared (scope_after u ls s)) (sym h.tree)
+        (λ has typed. (local_declared n i h.end h.init has ls typed, declared)) has typed
+    declared_after s n i j (inr (inl h)) has ls typed declared = subst (λ s. AreDeclared (scope_after u ls s)) (sym h.tree) declared
+    declared_after s n i j (inr (inr (stand, tree, next))) has ls typed declared = subst (λ s. AreDeclared (scope_after u ls s)) (sym tree) declared
+
     pub steps_kept : ChangesLocal → (xs : Stmts) (n i j : ℕ) → AreSteps names ts n xs i j → ((s : Stmt) → HasStmt xs s → HasStmt (main_steps u) s)
-        → (ls ms : List Local) → AreAlike x target ls ms → AreTyped (λ n a. Unit {0}) (λ n x. Unit {0}) u w ls xs
+        → (ls ms : List Local) → AreAlike x target ls ms → AreDeclared ls → AreTyped (λ n a. Unit {0}) (λ n x. Unit {0}) u w ls xs
         → AreTyped (λ n a. Unit {0}) (λ n x. Unit {0}) (generalized c u) w ms (stmts c xs)
-    steps_kept is t.Last n i j h among ls ms alike typed = tt
-    steps_kept is (t.Then s ss) n i j (m, step, rest) among ls ms alike (first, more) =
+    steps_kept is t.Last n i j h among ls ms alike declared typed = tt
+    steps_kept is (t.Then s ss) n i j (m, step, rest) among ls ms alike declared (first, more) =
         let has = among s (inl refl) in (
-          step_holds is s n i m step has ls ms alike first,
-          steps_kept is ss (n + stmt_nodes s) m j rest (λ s has. among s (inr has)) _ _ (scopes_alike is s n i m step has ls ms alike) more,
+          step_holds is s n i m step has ls ms alike declared first,
+          steps_kept is ss (n + stmt_nodes s) m j rest (λ s has. among s (inr has)) _ _ (scopes_alike is s n i m step has ls ms alike)
+              (declared_after s n i m step has ls first declared) more,
         )

@@ -26,11 +26,11 @@ use Rattle.edit_writer.specs.declared.places.Place.{Place}
 use Rattle.java_typing.specs.WorldOf.{world_of}
 use Rattle.java_typing.specs.Typing.{Annotation, Annotates}
 use Rattle.constraint_terms.specs.Effect.{generalized}
-use Rattle.constraint_terms.specs.Question.{IsUnmet}
+use Rattle.constraint_terms.specs.Question.{CKind, IsUnmet, AreMet}
 use Rattle.tree_edit.specs.Order.{InOrder}
 use Rattle.tree_edit.proofs.Moved.{generalized_spells}
 use Rattle.tree_edit.proofs.MainSteps.{local_token}
-use Rattle.keep_laws.specs.Kept.{IsNameOf, AllAnswered}
+use Rattle.keep_laws.specs.Kept.{IsNameOf}
 use Rattle.keep_laws.proofs.Kept.{generalize_keeps}
 use Rattle.check_decl.proofs.Prints.{annotated}
 use Rattle.generalize_type.specs.declared.small.SmallEdit.{SmallEdit}
@@ -90,9 +90,10 @@ module _ (q : Request) (text : List ℕ) (p : Program) (w : World) (target : ℕ
       let from : tok.1.span.from ≡ e.from = ap (λ (x : Span). x.from) tok.4 ∙ sym plan.from in
       let to : tok.1.span.to ≡ e.to = ap (λ (x : Span). x.to) tok.4 ∙ sym plan.to in
       let below = subst (λ (w : World). IsBelow w plan.x.ty target) same plan.below in
-      let met : (call : Node) → IsUnmet p.unit (world_of p.unit) plan.x target call → ⊥ = subst (λ (w : World). (call : Node) → IsUnmet p.unit w plan.x target call → ⊥) same plan.met in
-      let answered : AllAnswered p.unit (world_of p.unit) plan.x target = subst (λ (w : World). AllAnswered p.unit w plan.x target) same plan.answered in
-      let keeps = generalize_keeps p.names p.toks p.unit plan.x target c order spells small.checked.declarations small.checked.steps d plan.from plan.to named_is.2 below answered in
+      let met : (kind : CKind) (n : Node) → IsUnmet p.unit (world_of p.unit) plan.x target kind n → ⊥ =
+          subst (λ (w : World). (kind : CKind) (n : Node) → IsUnmet p.unit w plan.x target kind n → ⊥) same plan.met in
+      let all_met : AreMet p.unit (world_of p.unit) plan.x target = subst (λ (w : World). AreMet p.unit w plan.x target) same plan.all_met in
+      let keeps = generalize_keeps p.names p.toks p.unit plan.x target c order spells small.checked.declarations small.checked.steps d plan.from plan.to named_is.2 below all_met in
       let same_span : plan.x.head ≡ record { from = c.from; to = c.to } = span_is plan.x.head e.from e.to plan.from plan.to in
       let spelled = generalized_spells p.names p.toks p.unit c order spells (t.Local d.node d.is_final (t.Written d.type_node d.written plan.x.head d.args d.dims) (d.var ∷ []), d.stands, same_span) in
       let lexed = replaced_lexes p.names text p.toks tok.0 tok.1 e.text named_is.0 lexes tok.2 tok.3 (subst IsIdentifier (sym word) identifier) there in

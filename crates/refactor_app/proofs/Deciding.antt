@@ -17,11 +17,11 @@ use Rattle.class_world.specs.Subtypes.{IsBelow}
 use Rattle.java_typing.specs.Main.{before_last}
 use Rattle.java_typing.specs.WorldOf.{world_of, place_of}
 use Rattle.java_typing.specs.Typing.{StepsHold}
-use Rattle.constraint_terms.specs.Question.{IsFirstUnmet}
+use Rattle.constraint_terms.specs.Question.{CKind, Assign, Member, IsFirstUnmet}
 use Rattle.tree_edit.proofs.MainSteps.{local_token}
 use Rattle.generalize_type.specs.declared.small.SmallEdit.{SmallEdit}
 use Rattle.generalize_type.specs.Given.{IsGiven}
-use Rattle.generalize_type.specs.Steps.{HasCall}
+use Rattle.generalize_type.specs.Steps.{IsConstrained}
 use Rattle.generalize_type.specs.Plans as plans
 use Rattle.generalize_type.proofs.Types.{step_called}
 use Rattle.report_text.specs.Report.{refused, refused_at}
@@ -31,7 +31,7 @@ use Rattle.refactor_app.specs.declared.decide.Verdict.TheVariants as v
 use Rattle.refactor_app.specs.Words.{Request}
 use Rattle.refactor_app.specs.Program.{Program, IsTypeNamed}
 use Rattle.refactor_app.specs.Small.{IsProgramOf, IsNoProgram, IsTarget, program_of}
-use Rattle.refactor_app.specs.Verdicts.{Refuses, IsNotSmall, HasNoPlace, Speaks, Names, asked}
+use Rattle.refactor_app.specs.Verdicts.{Refuses, IsNotSmall, HasNoPlace, Speaks, Names, asked, kind_name}
 use Rattle.refactor_app.specs.Verdicts as verdict
 use Rattle.refactor_app.specs.Decided.{Decides, IsLine, IsPlanned}
 use Rattle.refactor_app.proofs.Smalls.{one_program, first_table}
@@ -109,16 +109,20 @@ module _ (text : List ℕ) (s : Small) (is : IsProgramOf text s) where
     not_above h = verdict.v3 speaks (record { declared = h.named.declared; begins = h.named.begins })
         (λ below. h.no_super (subst (λ (w : World). IsBelow w h.x.ty target) (sym is.2.world) below))
 
-    pub unmet : (n : ℕ) (r : plans.IsRefusedAt s.names text (unit_plain s.unit) s.declared.world (asked q) target n)
-        → Refuses q text (refused_at (codes "MEMBER") q.file (place_at text r.call.span.from))
-    unmet n r = verdict.member speaks (record { declared = r.named.declared; begins = r.named.begins })
+    pub unmet : (kind : CKind) (n : ℕ) (r : plans.IsRefusedAt s.names text (unit_plain s.unit) s.declared.world (asked q) target kind n)
+        → Refuses q text (refused_at (kind_name kind) q.file (place_at text r.node.span.from))
+    unmet kind n r = verdict.unmet kind r.node speaks (record { declared = r.named.declared; begins = r.named.begins })
         (subst (λ (w : World). IsBelow w r.x.ty target) is.2.world r.below)
-        (subst (λ (w : World). IsFirstUnmet (unit_plain s.unit) w r.x target r.call) is.2.world r.first)
+        (subst (λ (w : World). IsFirstUnmet (unit_plain s.unit) w r.x target kind r.node) is.2.world r.first)
 
-    pub has_call : (n : ℕ) (r : plans.IsRefusedAt s.names text (unit_plain s.unit) s.declared.world (asked q) target n) → HasCall (unit_plain s.unit) r.call
-    has_call n r =
+    pub constrained : (kind : CKind) (n : ℕ) (r : plans.IsRefusedAt s.names text (unit_plain s.unit) s.declared.world (asked q) target kind n)
+        → IsConstrained (unit_plain s.unit) r.node
+    constrained Member n r =
         let un = r.first.0 in
-        record { stmt = un.stmt; receiver = un.receiver; on = r.x.name; method = un.method; args = t.End; stands = un.stands }
+        inl (record { stmt = un.stmt; receiver = un.receiver; on = r.x.name; method = un.method; args = t.End; stands = un.stands })
+    constrained Assign n r =
+        let un = r.first.0 in
+        inr (un.to.name, r.x.name, un.flows)
 
     pub planned : (e : SmallEdit) → IsIdentifier q.ty → plans.IsPlan s.names text (unit_plain s.unit) s.declared.world (asked q) target e → IsPlanned q text e
     planned e word plan = record {

@@ -8,28 +8,27 @@ use Rattle.java_tree.specs.Names.{AreDistinct}
 use Rattle.java_tree.specs.Plain as t
 use Rattle.java_tree.specs.Plain.{Stmt}
 use Rattle.small_lexer.proofs.TokenLemmas.{within}
-use Rattle.small_parser.specs.Grammar.{IsStep}
 use Rattle.edit_writer.specs.declared.edits.Edit.{Edit}
 use Rattle.edit_writer.specs.Edits.{edited}
 use Rattle.edit_writer.specs.Places.{place_at}
 use Rattle.edit_writer.proofs.Lines.{one_place}
 use Rattle.class_world.specs.Subtypes.{IsBelow}
-use Rattle.java_typing.specs.Main.{before_last, main_steps, HasStmt}
+use Rattle.java_typing.specs.Main.{before_last}
 use Rattle.java_typing.specs.WorldOf.{world_of, place_of}
 use Rattle.java_typing.specs.Typing.{step_type}
-use Rattle.constraint_terms.specs.Question.{Local, Declares, IsUnmet, IsFirstUnmet}
+use Rattle.constraint_terms.specs.Question.{Local, Declares, CKind, IsUnmet, IsFirstUnmet}
 use Rattle.tree_edit.specs.Order.{InOrder}
-use Rattle.tree_edit.specs.Roots.{stmt_root}
-use Rattle.tree_edit.proofs.MainSteps.{Stands, main_step, local_token, numbered_once, one_local, steps_in_order}
+use Rattle.tree_edit.proofs.MainSteps.{local_token, one_local}
+use Rattle.generalize_type.proofs.Main.{one_unmet}
 use Rattle.report_text.specs.Report.{refused, refused_at}
 use Rattle.refactor_app.specs.Words.{Request}
 use Rattle.refactor_app.specs.Program.{Program, IsSmall, IsTypeNamed}
-use Rattle.refactor_app.specs.Verdicts.{Refuses, Changes, IsNotSmall, HasNoPlace, Speaks, Names, asked}
+use Rattle.refactor_app.specs.Verdicts.{Refuses, Changes, IsNotSmall, HasNoPlace, Speaks, Names, asked, kind_name}
 use Rattle.refactor_app.specs.Verdicts as verdict
 use Rattle.refactor_app.proofs.Changing.{order_of}
 use Rattle.refactor_app.proofs.Smalls.{one_program, first_table}
 
--- ---- locals and calls of one program
+-- ---- locals and constraints of one program
 
 module _ (text : List ℕ) (p : Program) (small : IsSmall text p) where
   distinct : AreDistinct p.names
@@ -81,39 +80,12 @@ module _ (text : List ℕ) (p : Program) (small : IsSmall text p) where
       let names : d.var.name ≡ e.var.name = cc name in
       same_local x y (sym d.name ∙ names ∙ e.name) (ap head_in same) (cc ty)
 
-  -- the node of a call's statement
-  abbrev call_in : Stmt → Node
-  call_in (t.Value n (t.Call c of m args)) = c
-  call_in _ = record { id = 0; span = record { from = 0; to = 0 } }
-
-  call_number : (n c r : Node) (x m : Name) → HasStmt (main_steps p.unit) (t.Value n (t.Call c (t.AnExpr (t.Name r x)) m t.End)) → c.id ≡ n.id + 1
-  call_number n c r x m has = by_step there.is
-    where
-      s : Stmt
-      s = t.Value n (t.Call c (t.AnExpr (t.Name r x)) m t.End)
-
-      there : Stands p.names p.toks s
-      there = main_step p.names p.toks p.unit small.read.spells s has
-
-      by_step : IsStep p.names p.toks there.number s there.place there.next → c.id ≡ n.id + 1
-      by_step (inl (stand, tree, next)) = absurd (cc)
-      by_step (inr (stand, tree, next)) =
-          let root : n.id ≡ there.number = ap (λ x. (stmt_root x).id) tree in
-          let call : c.id ≡ there.number + 1 = ap (λ x. (call_in x).id) tree in
-          omega (arith, root, call)
-
-  one_call : (x : Local) (target : ℕ) (c d : Node) → IsFirstUnmet p.unit (world_of p.unit) x target c → IsFirstUnmet p.unit (world_of p.unit) x target d → c ≡ d
-  one_call x target c d a b =
-      let u = a.0 in
-      let v = b.0 in
-      let low = a.1 d v in
-      let high = b.1 c u in
-      let first = call_number u.stmt c u.receiver x.name u.method u.stands in
-      let second = call_number v.stmt d v.receiver x.name v.method v.stands in
-      let s : Stmt = t.Value u.stmt (t.Call c (t.AnExpr (t.Name u.receiver x.name)) u.method t.End) in
-      let s' : Stmt = t.Value v.stmt (t.Call d (t.AnExpr (t.Name v.receiver x.name)) v.method t.End) in
-      let same : s ≡ s' = numbered_once (main_steps p.unit) (steps_in_order p.names p.toks order p.unit small.read.spells) s s' u.stands v.stands (omega (arith, low, high, first, second)) in
-      ap call_in same
+  one_first : (x : Local) (target : ℕ) (kind kind' : CKind) (n m : Node) → IsFirstUnmet p.unit (world_of p.unit) x target kind n → IsFirstUnmet p.unit (world_of p.unit) x target kind' m
+      → (kind ≡ kind') × (n ≡ m)
+  one_first x target kind kind' n m a b =
+      let low = a.1 kind' m b.0 in
+      let high = b.1 kind n a.0 in
+      one_unmet p.names p.toks p.unit order small.read.spells (world_of p.unit) x target kind kind' n m a.0 b.0 (omega (arith, low, high))
 
 -- ---- verdicts of one program and one type
 
@@ -122,8 +94,8 @@ module _ (q : Request) (text : List ℕ) where
   data Against (p : Program) (target : ℕ) (line : List ℕ) : Type 0 where
     nowhere : HasNoPlace q text p → line ≡ refused (codes "V1") → Against p target line
     not_above : (x : Local) → Names q text p x → (IsBelow (world_of p.unit) x.ty target → ⊥) → line ≡ refused_at (codes "V3") q.file (asked q) → Against p target line
-    unmet : (x : Local) (call : Node) → Names q text p x → IsBelow (world_of p.unit) x.ty target → IsFirstUnmet p.unit (world_of p.unit) x target call
-        → line ≡ refused_at (codes "MEMBER") q.file (place_at text call.span.from) → Against p target line
+    unmet : (x : Local) (kind : CKind) (n : Node) → Names q text p x → IsBelow (world_of p.unit) x.ty target → IsFirstUnmet p.unit (world_of p.unit) x target kind n
+        → line ≡ refused_at (kind_name kind) q.file (place_at text n.span.from) → Against p target line
 
   same_program : (p r : Program) → IsSmall text p → IsSmall text r → p ≡ r
   same_program p r a b = one_program text p r (distinct text p a) a.read b.read
@@ -141,35 +113,35 @@ module _ (q : Request) (text : List ℕ) where
       let to = same_target p r target c s s' in
       not_above x (subst (λ (p : Program). Names q text p x) same named)
       (subst (λ (c : ℕ). IsBelow (world_of p.unit) x.ty c → ⊥) to (subst (λ (p : Program). IsBelow (world_of p.unit) x.ty c → ⊥) same below)) refl
-  against p target line s (verdict.member {p = r} {target = c} {x = x} {call = call} s' named below first) =
+  against p target line s (verdict.unmet {p = r} {target = c} {x = x} kind n s' named below first) =
       let same = sym (same_program p r s.small s'.small) in
       let to = same_target p r target c s s' in
-      unmet x call (subst (λ (p : Program). Names q text p x) same named)
+      unmet x kind n (subst (λ (p : Program). Names q text p x) same named)
       (subst (λ (c : ℕ). IsBelow (world_of p.unit) x.ty c) to (subst (λ (p : Program). IsBelow (world_of p.unit) x.ty c) same below))
-      (subst (λ (c : ℕ). IsFirstUnmet p.unit (world_of p.unit) x c call) to (subst (λ (p : Program). IsFirstUnmet p.unit (world_of p.unit) x c call) same first)) refl
+      (subst (λ (c : ℕ). IsFirstUnmet p.unit (world_of p.unit) x c kind n) to (subst (λ (p : Program). IsFirstUnmet p.unit (world_of p.unit) x c kind n) same first)) refl
 
   one_line : (p : Program) (target : ℕ) (a b : List ℕ) → IsSmall text p → Against p target a → Against p target b → a ≡ b
   one_line p target a b small (nowhere none e) (nowhere none' f) = e ∙ sym f
   one_line p target a b small (nowhere none e) (not_above x named below f) = absurd (none x named.declared named.begins)
-  one_line p target a b small (nowhere none e) (unmet x call named below first f) = absurd (none x named.declared named.begins)
+  one_line p target a b small (nowhere none e) (unmet x kind n named below first f) = absurd (none x named.declared named.begins)
   one_line p target a b small (not_above x named below e) (nowhere none f) = absurd (none x named.declared named.begins)
   one_line p target a b small (not_above x named below e) (not_above y named' below' f) = e ∙ sym f
-  one_line p target a b small (not_above x named below e) (unmet y call named' below' first f) =
+  one_line p target a b small (not_above x named below e) (unmet y kind n named' below' first f) =
       absurd (below (subst (λ (z : Local). IsBelow (world_of p.unit) z.ty target) (one_named text p small q y x named' named) below'))
-  one_line p target a b small (unmet x call named below first e) (nowhere none f) = absurd (none x named.declared named.begins)
-  one_line p target a b small (unmet x call named below first e) (not_above y named' below' f) =
+  one_line p target a b small (unmet x kind n named below first e) (nowhere none f) = absurd (none x named.declared named.begins)
+  one_line p target a b small (unmet x kind n named below first e) (not_above y named' below' f) =
       absurd (below' (subst (λ (z : Local). IsBelow (world_of p.unit) z.ty target) (one_named text p small q x y named named') below))
-  one_line p target a b small (unmet x call named below first e) (unmet y call' named' below' first' f) =
+  one_line p target a b small (unmet x kind n named below first e) (unmet y kind' m named' below' first' f) =
       let same = one_named text p small q y x named' named in
-      let calls = one_call text p small x target call call' first (subst (λ (z : Local). IsFirstUnmet p.unit (world_of p.unit) z target call') same first') in
-      e ∙ ap (λ (c : Node). refused_at (codes "MEMBER") q.file (place_at text c.span.from)) calls ∙ sym f
+      let one = one_first text p small x target kind kind' n m first (subst (λ (z : Local). IsFirstUnmet p.unit (world_of p.unit) z target kind' m) same first') in
+      e ∙ ap (λ (k : CKind). refused_at (kind_name k) q.file (place_at text n.span.from)) one.0 ∙ ap (λ (n : Node). refused_at (kind_name kind') q.file (place_at text n.span.from)) one.1 ∙ sym f
 
   -- a refusal is N2, or speaks of a program
   speaks_or_not : (line : List ℕ) → Refuses q text line → ((line ≡ refused (codes "N2")) × IsNotSmall q text) ⊎ ((p : Program) × (target : ℕ) × Speaks q text p target)
   speaks_or_not line (verdict.n2 none) = inl (refl, none)
   speaks_or_not line (verdict.v1 {p = p} {target = c} s none) = inr (p, c, s)
   speaks_or_not line (verdict.v3 {p = p} {target = c} s named below) = inr (p, c, s)
-  speaks_or_not line (verdict.member {p = p} {target = c} s named below first) = inr (p, c, s)
+  speaks_or_not line (verdict.unmet {p = p} {target = c} kind n s named below first) = inr (p, c, s)
 
   pub one_refusal : (a b : List ℕ) → Refuses q text a → Refuses q text b → a ≡ b
   one_refusal a b r r' = elim (speaks_or_not a r) [
@@ -187,8 +159,8 @@ module _ (q : Request) (text : List ℕ) where
       by_cause (nowhere none f) = none c.x c.local.declared c.local.begins
       by_cause (not_above x named below f) =
           below (subst (λ (z : Local). IsBelow (world_of c.old.unit) z.ty c.target) (one_named text c.old c.speaks.small q c.x x c.local named) c.below)
-      by_cause (unmet x call named below first f) =
-          c.met call (subst (λ (z : Local). IsUnmet c.old.unit (world_of c.old.unit) z c.target call) (one_named text c.old c.speaks.small q x c.x named c.local) first.0)
+      by_cause (unmet x kind n named below first f) =
+          c.met kind n (subst (λ (z : Local). IsUnmet c.old.unit (world_of c.old.unit) z c.target kind n) (one_named text c.old c.speaks.small q x c.x named c.local) first.0)
 
   same_edit : (d e : Edit) → d.from ≡ e.from → d.to ≡ e.to → d.text ≡ e.text → d ≡ e
   same_edit d e from to text = rw (from, to, text) refl

@@ -48,7 +48,7 @@ pub data Refuses (q : Request) (text : List ℕ) : List ℕ → Type 0 where
   v1 : {p : Program} {target : ℕ} → Speaks q text p target → HasNoPlace q text p → Refuses q text (refused (codes "V1"))
   v3 : {p : Program} {target : ℕ} {x : Local} → Speaks q text p target → Names q text p x → (IsBelow (world_of p.unit) x.ty target → ⊥)
       → Refuses q text (refused_at (codes "V3") q.file (asked q))
-  unmet : {p : Program} {target : ℕ} {x : Local} {kind : CKind} {n : Node} → Speaks q text p target → Names q text p x → IsBelow (world_of p.unit) x.ty target
+  unmet : {p : Program} {target : ℕ} {x : Local} (kind : CKind) (n : Node) → Speaks q text p target → Names q text p x → IsBelow (world_of p.unit) x.ty target
       → IsFirstUnmet p.unit (world_of p.unit) x target kind n → Refuses q text (refused_at (kind_name kind) q.file (place_at text n.span.from))
 
 -- The change: the edit, and the program before and after it.

@@ -1,6 +1,6 @@
 //! What becomes of a request on a text.
 
-ghost use Rattle.std.specs.Prelude.{◌≡◌, ◌≤◌, ◌⊎◌, ◌^◌, ℕ, length, IfOk, IfSome, IfNone, codes};
+ghost use Rattle.std.specs.Prelude.{◌≡◌, ◌≤◌, ◌⊎◌, ◌^◌, ℕ, length, IfOk, IfSome, IfNone};
 ghost use Rattle.std.specs.String.{string_bytes};
 ghost use Rattle.java_tree.specs.declared.tree.Node.{Node};
 ghost use Rattle.java_tree.specs.Names.{AreDistinct};
@@ -8,7 +8,7 @@ ghost use Rattle.java_tree.specs.View.{unit_plain};
 ghost use Rattle.small_lexer.specs.Pieces.{IsIdentifier};
 ghost use Rattle.edit_writer.specs.Places as places;
 ghost use Rattle.decl_table.specs.Classes.{Numbers};
-ghost use Rattle.generalize_type.specs.Steps.{HasCall};
+ghost use Rattle.generalize_type.specs.Steps.{IsConstrained};
 ghost use Rattle.report_text.specs.Report as lines;
 ghost use Rattle.refactor_app.specs.Asked.{request_of};
 ghost use Rattle.refactor_app.specs.Decided.{Decides, IsChange, IsLine, IsPlanned};
@@ -19,7 +19,7 @@ ghost use Rattle.refactor_app.specs.Words as spec;
 use crate::program::{Small, read_program};
 use crate::words::Asked;
 use edit_writer::{Edit, Place, apply, place_at};
-use generalize_type::{SmallAgainst, SmallEdit, call_start, generalize_small};
+use generalize_type::{SmallAgainst, SmallEdit, generalize_small, start_of};
 use java_tree::NoMemory;
 use report_text::{edit_report, refused_at, write_fault};
 use std::alloc::Global;
@@ -82,21 +82,22 @@ fn refused_there(alloc: Global, rule: &str, q: &Asked<'_>, at: Place) -> Result<
     Ok(Verdict::Refused(refused_at(alloc, rule, q.file, at)?))
 }
 
-// The refusal at the call of main with this node number.
+// The refusal at the node of main with this number, at which a constraint of this name is unmet.
 fn unmet_at(
     alloc: Global,
+    rule: &str,
     q: &Asked<'_>,
     text: &[u8],
     small: &Small,
     number: u32,
 ) -> Result<Verdict, NoMemory>
     requires program { IsProgramOf text.now small.now }
-    requires call { (call : Node) × HasCall (unit_plain small.now.unit) call × (call.id ≡ number) }
-    ensures { (call : Node) → HasCall (unit_plain small.now.unit) call → call.id ≡ number
-        → IfOk result (IsLine (lines.refused_at (codes "MEMBER") q.now.file.now (places.place_at text.now call.span.from))) }
+    requires node { (n : Node) × IsConstrained (unit_plain small.now.unit) n × (n.id ≡ number) }
+    ensures { (n : Node) → IsConstrained (unit_plain small.now.unit) n → n.id ≡ number
+        → IfOk result (IsLine (lines.refused_at rule.now q.now.file.now (places.place_at text.now n.span.from))) }
 {
-    match call_start(&small.unit, number) {
-        Some(from) => refused_there(alloc, "MEMBER", q, place_at(text, from as usize)),
+    match start_of(&small.unit, number) {
+        Some(from) => refused_there(alloc, rule, q, place_at(text, from as usize)),
         None => unreachable!(),
     }
 }
@@ -166,8 +167,8 @@ fn judge(
         Ok(edit) => Ok(Verdict::Changed(change_of(alloc, q, text, edit)?)),
         Err(SmallAgainst::V(1)) => refused(alloc, "refused V1 -\n"),
         Err(SmallAgainst::V(_)) => refused_there(alloc, "V3", q, at),
-        Err(SmallAgainst::Member(number)) => unmet_at(alloc, q, text, small, number),
-        Err(SmallAgainst::Assign(_)) => unreachable!(),
+        Err(SmallAgainst::Assign(number)) => unmet_at(alloc, "ASSIGN", q, text, small, number),
+        Err(SmallAgainst::Member(number)) => unmet_at(alloc, "MEMBER", q, text, small, number),
         Err(SmallAgainst::NoMemory) => Err(NoMemory),
     }
 }

@@ -39,7 +39,7 @@ fn files(alloc: Global, text: &[u8], fail: &[u32]) -> Result<MemFiles, NoMemory>
 
 /// A sink with room for a report, and puts that fail.
 fn sink(alloc: Global, fail: &[u32]) -> Result<MemSink, NoMemory> {
-    let mut sink = MemSink::new(alloc, Vec::from_slice(alloc, fail)?);
+    let mut sink = MemSink::new(Vec::from_slice(alloc, fail)?);
     sink.reserve(256)?;
     Ok(sink)
 }
@@ -140,6 +140,30 @@ fn each_refusal_has_its_line(rt: HostRuntime) -> Result<(), Fail> {
     Ok(())
 }
 
+/// The local x flows to y, whose type is B; then it is called.
+const FLOWS: &[u8] = b"class A { void m() { System.out.println(\"a\"); } }
+class B extends A { }
+class Main { public static void main(String[] args) {
+    B x = new B();
+    B y = x;
+    y = x;
+    x = y;
+    x.m();
+} }
+";
+
+#[test]
+fn values_are_constrained(rt: HostRuntime) -> Result<(), Fail> {
+    let alloc = rt.alloc();
+    let first = "generalize out A.java 4 5 A -- A.java";
+    assert!(rt; refuses(alloc, FLOWS, first, b"refused ASSIGN A.java:5:11\n")?);
+    let object = "generalize out A.java 4 5 Object -- A.java";
+    assert!(rt; refuses(alloc, FLOWS, object, b"refused ASSIGN A.java:5:11\n")?);
+    let second = "generalize out A.java 5 5 A -- A.java";
+    assert!(rt; refuses(alloc, FLOWS, second, b"refused ASSIGN A.java:7:9\n")?);
+    Ok(())
+}
+
 #[test]
 fn a_missing_file_is_named(rt: HostRuntime) -> Result<(), Fail> {
     let alloc = rt.alloc();
@@ -167,7 +191,7 @@ fn program(alloc: Global, classes: &str, statements: &str) -> Result<String, NoM
 const NOWHERE: &str = "generalize out A.java 1 1 Object -- A.java";
 
 /// Programs in which no rule is broken.
-const RIGHT: [(&str, &str); 6] = [
+const RIGHT: [(&str, &str); 8] = [
     ("", ""),
     (
         "class A { void m() { } } class B extends A { void n() { } }",
@@ -189,10 +213,18 @@ const RIGHT: [(&str, &str); 6] = [
         "class $a_1 { void println() { System.out.println(\"a // b\"); } }",
         "$a_1 System = new $a_1(); System.println();",
     ),
+    (
+        "class A { void m() { } } class B extends A { }",
+        "B x = new B(); A y = x; Object o = y; y = new A(); o = x; y = x; x = x; y.m();",
+    ),
+    (
+        "class A { }",
+        "Object o = new Object(); Object p = o; p = new A(); o = p;",
+    ),
 ];
 
 /// Programs in which one rule is broken.
-const WRONG: [(&str, &str); 20] = [
+const WRONG: [(&str, &str); 29] = [
     ("class A { } class A { }", ""),
     ("class String { }", ""),
     ("class Main { }", ""),
@@ -213,6 +245,21 @@ const WRONG: [(&str, &str); 20] = [
     ("class A { void m() { } }", "Object x = new A(); x.m();"),
     ("class A { }", "A x = new A(); x.notify();"),
     ("class A { }", "Object x = new Main();"),
+    ("class A { }", "Object x = args;"),
+    ("class A { }", "Object x = new A(); x = args;"),
+    ("class A { }", "args = args;"),
+    ("class A { }", "A x = x;"),
+    ("class A { }", "A x = y; A y = new A();"),
+    ("class A { }", "x = new A();"),
+    ("class A { }", "Object o = new A(); A x = o;"),
+    (
+        "class A { } class B extends A { }",
+        "B x = new B(); x = new A();",
+    ),
+    (
+        "class A { } class B { }",
+        "A x = new A(); B y = new B(); x = y;",
+    ),
 ];
 
 #[test]

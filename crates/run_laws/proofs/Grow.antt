@@ -13,7 +13,7 @@ use Rattle.java_values.specs.declared.value.Value.TheVariants as v
 use Rattle.java_values.specs.State.{Thing, Text, State, Held, held}
 use Rattle.java_values.specs.State as state
 use Rattle.java_meaning.specs.Outcome.{Outcome, Gives, Threw, Bound, and_then, misfit, with_some, with_thing, step, step_at, leave, after, throws}
-use Rattle.java_meaning.specs.Meaning.{Place, print_line, value, values, performed, statement, all_statements, variable, system_out, class_number, allocated, invoked, called_on, Body, BuiltIn, Declared, Default, bodies, super_constructor, bound_to, ran, at_last, enter}
+use Rattle.java_meaning.specs.Meaning.{Place, print_line, value, values, performed, statement, all_statements, variable, stored, system_out, class_number, allocated, invoked, called_on, Body, BuiltIn, Declared, Default, bodies, super_constructor, bound_to, ran, at_last, enter}
 use Rattle.java_meaning.specs.Run.{main_number, run, start}
 use Rattle.java_meaning.specs.Alike.{IsPrefix, RunsGrow}
 
@@ -154,6 +154,18 @@ variable_later j (use_of.Field n) s = refl
 variable_later j (use_of.Method n) s = refl
 variable_later j use_of.Length s = refl
 
+stored_grew : (u : Use) (a : Value) (s : State) → Grew s (after (stored u a s))
+stored_grew (use_of.Local n) a s = alike s _ refl refl
+stored_grew (use_of.Field n) a s = throws_grew Value 10 s
+stored_grew (use_of.Method n) a s = throws_grew Value 10 s
+stored_grew use_of.Length a s = throws_grew Value 10 s
+
+stored_later : (j : ℕ) (u : Use) (a : Value) (s : State) → Later j (stored u a s) (stored u a (more j s))
+stored_later j (use_of.Local n) a s = refl
+stored_later j (use_of.Field n) a s = refl
+stored_later j (use_of.Method n) a s = refl
+stored_later j use_of.Length a s = refl
+
 out_grew : (c : JavaType) (s : State) → Grew s (after (system_out c s))
 out_grew c s = some_grew (class_number c) s _ (λ k. by_test (k == 3))
   where
@@ -195,9 +207,9 @@ module _ (g : Program) (call : Call) (grows : (m : ℕ) (r : Value) (xs : List V
     value_grew (t.Name n x) s = some_grew (g.notes.use_at n.id) s _ (λ u. variable_grew u s)
     value_grew (t.Field n e f) s = some_grew (g.notes.type_at n.id) s _ (λ c. out_grew c s)
     value_grew (t.New n c xs) s = some_grew (g.notes.use_at n.id) s _ (λ u. allocated_grew u s (made g call xs) (λ k r s. then_grew s (values at xs s) (λ ys s. and_then (call k r ys s) (λ done s. Gives r s)) (values_grew xs s) (λ ys s. then_grew s (call k r ys s) (λ done s. Gives r s) (grows k r ys s) (λ done s. same_state s))))
-    value_grew (t.Call n of m xs) s = throws_grew Value 10 s
-    value_grew (t.Assign n op a b) s = throws_grew Value 10 s
-    value_grew (t.Other n) s = throws_grew Value 10 s
+    value_grew (t.Assign n None (t.Name m x) e) s =
+        some_grew (g.notes.use_at m.id) s _ (λ u. then_grew s (value at e s) (λ a s. stored u a s) (value_grew e s) (λ a s. stored_grew u a s))
+    value_grew _ s = throws_grew Value 10 s
 
     values_grew : (xs : Exprs) (s : State) → Grew s (after (values at xs s))
     values_grew t.End s = same_state s
@@ -219,21 +231,14 @@ module _ (g : Program) (call : Call) (grows : (m : ℕ) (r : Value) (xs : List V
   performed_grew (t.Call n (t.AnExpr e) m xs) s = then_grew s (value at e s) (λ r s. and_then (values at xs s) (λ ys s. invoked at (g.notes.use_at n.id) r ys s)) (value_grew e s)
       (λ r s. then_grew s (values at xs s) (λ ys s. invoked at (g.notes.use_at n.id) r ys s) (values_grew xs s) (λ ys s. invoked_grew (g.notes.use_at n.id) r ys s))
   performed_grew (t.Call n t.NoExpr m xs) s = throws_grew (Unit {0}) 10 s
-  performed_grew (t.Text n x) s = then_grew s (value at (t.Text n x) s) (λ y s. Gives (tt {0}) s) (value_grew (t.Text n x) s) (λ y s. same_state s)
-  performed_grew (t.Name n x) s = then_grew s (value at (t.Name n x) s) (λ y s. Gives (tt {0}) s) (value_grew (t.Name n x) s) (λ y s. same_state s)
-  performed_grew (t.Field n e f) s = then_grew s (value at (t.Field n e f) s) (λ y s. Gives (tt {0}) s) (value_grew (t.Field n e f) s) (λ y s. same_state s)
-  performed_grew (t.New n c xs) s = then_grew s (value at (t.New n c xs) s) (λ y s. Gives (tt {0}) s) (value_grew (t.New n c xs) s) (λ y s. same_state s)
-  performed_grew (t.Assign n op a b) s = then_grew s (value at (t.Assign n op a b) s) (λ y s. Gives (tt {0}) s) (value_grew (t.Assign n op a b) s) (λ y s. same_state s)
-  performed_grew (t.Other n) s = then_grew s (value at (t.Other n) s) (λ y s. Gives (tt {0}) s) (value_grew (t.Other n) s) (λ y s. same_state s)
+  performed_grew e s = then_grew s (value at e s) (λ y s. Gives (tt {0}) s) (value_grew e s) (λ y s. same_state s)
 
   mutual
     statement_grew : (x : Stmt) (s : State) → Grew s (after (statement at x s))
     statement_grew (t.Block n xs) s = all_grew xs s
-    statement_grew (t.Local n f c []) s = throws_grew (Unit {0}) 10 s
     statement_grew (t.Local n f c (x ∷ [])) s = some_grew x.init s _ (λ e. then_grew s (value at e s) (declares x.node.id) (value_grew e s) (λ a s. alike s _ refl refl))
-    statement_grew (t.Local n f c (x ∷ y ∷ xs)) s = throws_grew (Unit {0}) 10 s
     statement_grew (t.Value n e) s = performed_grew e s
-    statement_grew (t.OtherStmt n) s = throws_grew (Unit {0}) 10 s
+    statement_grew _ s = throws_grew (Unit {0}) 10 s
 
     all_grew : (xs : Stmts) (s : State) → Grew s (after (all_statements at xs s))
     all_grew t.Last s = same_state s
@@ -276,9 +281,9 @@ module _ (g : Program) (j : ℕ) (call call' : Call) (grows : (m : ℕ) (r : Val
         then_later j (values less xs s) (values longer xs (more j s)) (λ ys s. and_then (call k r ys s) (λ done s. Gives r s)) (λ ys s. and_then (call' k r ys s) (λ done s. Gives r s)) (values_later xs s)
         (λ ys s. then_later j (call k r ys s) (call' k r ys (more j s)) (λ done s. Gives r s) (λ done s. Gives r s) (laters k r ys s) (λ done s. refl) (λ done s. same_state s))
         (λ ys s. then_grew s (call' k r ys s) (λ done s. Gives r s) (grows k r ys s) (λ done s. same_state s))))
-    value_later (t.Call n of m xs) s = refl
-    value_later (t.Assign n op a b) s = refl
-    value_later (t.Other n) s = refl
+    value_later (t.Assign n None (t.Name m x) e) s = some_later j (g.notes.use_at m.id) s _ _ (λ u.
+        then_later j (value less e s) (value longer e (more j s)) (λ a s. stored u a s) (λ a s. stored u a s) (value_later e s) (λ a s. stored_later j u a s) (λ a s. stored_grew u a s))
+    value_later _ s = refl
 
     values_later : (xs : Exprs) (s : State) → Later j (values less xs s) (values longer xs (more j s))
     values_later t.End s = refl
@@ -306,21 +311,14 @@ module _ (g : Program) (j : ℕ) (call call' : Call) (grows : (m : ℕ) (r : Val
       (λ ys s. invoked_later (g.notes.use_at n.id) r ys s) (λ ys s. invoked_grew g call' grows (g.notes.use_at n.id) r ys s))
       (λ r s. then_grew s (values longer xs s) (λ ys s. invoked longer (g.notes.use_at n.id) r ys s) (values_grew g call' grows xs s) (λ ys s. invoked_grew g call' grows (g.notes.use_at n.id) r ys s))
   performed_later (t.Call n t.NoExpr m xs) s = refl
-  performed_later (t.Text n x) s = then_later j (value less (t.Text n x) s) (value longer (t.Text n x) (more j s)) (λ y s. Gives (tt {0}) s) (λ y s. Gives (tt {0}) s) (value_later (t.Text n x) s) (λ y s. refl) (λ y s. same_state s)
-  performed_later (t.Name n x) s = then_later j (value less (t.Name n x) s) (value longer (t.Name n x) (more j s)) (λ y s. Gives (tt {0}) s) (λ y s. Gives (tt {0}) s) (value_later (t.Name n x) s) (λ y s. refl) (λ y s. same_state s)
-  performed_later (t.Field n e f) s = then_later j (value less (t.Field n e f) s) (value longer (t.Field n e f) (more j s)) (λ y s. Gives (tt {0}) s) (λ y s. Gives (tt {0}) s) (value_later (t.Field n e f) s) (λ y s. refl) (λ y s. same_state s)
-  performed_later (t.New n c xs) s = then_later j (value less (t.New n c xs) s) (value longer (t.New n c xs) (more j s)) (λ y s. Gives (tt {0}) s) (λ y s. Gives (tt {0}) s) (value_later (t.New n c xs) s) (λ y s. refl) (λ y s. same_state s)
-  performed_later (t.Assign n op a b) s = refl
-  performed_later (t.Other n) s = refl
+  performed_later e s = then_later j (value less e s) (value longer e (more j s)) (λ y s. Gives (tt {0}) s) (λ y s. Gives (tt {0}) s) (value_later e s) (λ y s. refl) (λ y s. same_state s)
 
   mutual
     statement_later : (x : Stmt) (s : State) → Later j (statement less x s) (statement longer x (more j s))
     statement_later (t.Block n xs) s = all_later xs s
-    statement_later (t.Local n f c []) s = refl
     statement_later (t.Local n f c (x ∷ [])) s = some_later j x.init s _ _ (λ e. then_later j (value less e s) (value longer e (more j s)) (declares x.node.id) (declares x.node.id) (value_later e s) (λ a s. refl) (λ a s. alike s _ refl refl))
-    statement_later (t.Local n f c (x ∷ y ∷ xs)) s = refl
     statement_later (t.Value n e) s = performed_later e s
-    statement_later (t.OtherStmt n) s = refl
+    statement_later _ s = refl
 
     all_later : (xs : Stmts) (s : State) → Later j (all_statements less xs s) (all_statements longer xs (more j s))
     all_later t.Last s = refl

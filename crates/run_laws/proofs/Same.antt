@@ -100,6 +100,8 @@ module _ (g g' : Program) (tree : IsClassTree g.world) (apart : AreApart g.world
       value_same (alike.field e) s = some_same _ _ s _ _ (sym e) (λ c. refl)
       value_same (alike.new e xs) s = some_same _ _ s _ _ (sym e) (λ u. allocated_same u s _ _ (λ k r s. then_same _ _ _ _ (values_same xs s) (λ ys s. then_same _ _ _ _ (calls k r ys s) (λ done s. refl))))
       value_same (alike.call u e xs) s = refl
+      value_same (alike.assign (alike.name e) b) s = some_same _ _ s _ _ (sym e) (λ u. then_same _ _ _ _ (value_same b s) (λ a s. refl))
+      value_same (alike.assign _ b) s = refl
 
       values_same : {xs xs' : Exprs} → ExprsAlike g g' xs xs' → (s : State) → values there xs' s ≡ values here xs s
       values_same alike.end s = refl
@@ -114,6 +116,8 @@ module _ (g g' : Program) (tree : IsClassTree g.world) (apart : AreApart g.world
     performed_same (alike.field {n = n} {n' = n'} {e = x} {e' = x'} {f = f} e) s = then_same _ _ _ _ (value_same (alike.field {n = n} {n' = n'} {e = x} {e' = x'} {f = f} e) s) (λ a s. refl)
     performed_same (alike.new {n = n} {n' = n'} {c = c} {c' = c'} {xs = ys} {xs' = ys'} e xs) s =
         then_same _ _ _ _ (value_same (alike.new {n = n} {n' = n'} {c = c} {c' = c'} {xs = ys} {xs' = ys'} e xs) s) (λ a s. refl)
+    performed_same (alike.assign {n = n} {n' = n'} {to = to} {to' = to'} {e = e} {e' = e'} a b) s =
+        then_same _ _ _ _ (value_same (alike.assign {n = n} {n' = n'} {to = to} {to' = to'} {e = e} {e' = e'} a b) s) (λ a s. refl)
     performed_same (alike.call u e xs) s = then_same _ _ _ _ (value_same e s) (λ r s. then_same _ _ _ _ (values_same xs s) (λ ys s. invoked_same _ _ u r ys s))
 
     mutual

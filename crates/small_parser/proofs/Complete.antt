@@ -1,15 +1,15 @@
 -- What is in the grammar is read.
 use Rattle.std.proofs.Common.{◌≡◌, ◌≢◌, ℕ, suc, ◌+◌, ◌<◌, ◌≤◌, true, false, ◌==◌, List, [], ◌∷◌, length, codes, Option, Some, refl, sym, ap, ◌∙◌, arith, inl, inr}
 use Rattle.std.proofs.lemmas.Bool.Decides.{nat_tests}
-use Rattle.java_tree.specs.Plain.{TypeExpr, Stmt, Stmts, Member, TypeDecl, SourceUnit}
+use Rattle.java_tree.specs.Plain.{TypeExpr, Expr, Stmt, Stmts, Member, TypeDecl, SourceUnit}
 use Rattle.java_tree.specs.View.{stmt_row}
 use Rattle.small_lexer.specs.declared.token.Tok.{Tok}
 use Rattle.small_lexer.specs.declared.token.Sort.TheVariants as s
 use Rattle.small_lexer.specs.Reads.{sort_at}
-use Rattle.small_parser.specs.Nodes.{stmt_nodes, stmts_nodes, member_nodes, members_nodes, decl_nodes}
-use Rattle.small_parser.specs.Grammar.{ArePrints, type_at, method_at, class_at, main_method, IsPrint, IsMethod, IsClass, IsStep, IsMain, AreTypes, AreMethods, AreSteps, Spells}
+use Rattle.small_parser.specs.Nodes.{expr_nodes, stmt_nodes, stmts_nodes, member_nodes, members_nodes, decl_nodes}
+use Rattle.small_parser.specs.Grammar.{ArePrints, type_at, method_at, class_at, local_at, assign_at, main_method, IsPrint, IsMethod, IsClass, IsValue, IsLocal, IsAssign, IsStep, IsMain, AreTypes, AreMethods, AreSteps, Spells}
 use Rattle.small_parser.specs.Parse as spec
-use Rattle.small_parser.specs.Parse.{◌>>=◌, Read, same_sort, is_at, stand, is_print, is_called, token_text, print, prints, method, methods, class_body, class_below, class, call, step, steps, is_main, main, begins_main, classes}
+use Rattle.small_parser.specs.Parse.{◌>>=◌, Read, same_sort, is_at, stand, is_print, is_called, token_text, print, prints, method, methods, class_body, class_below, class, value, local, assign, call, step, steps, is_main, main, begins_main, classes}
 use Rattle.small_parser.proofs.Steps.{not_true, is_at_says, is_at_has, is_at_not, are_tokens, stand_says, stand_has, called_has}
 use Rattle.small_parser.proofs.Lists.{total, Comes, are_on, many_comes}
 use Rattle.small_parser.proofs.Forms.{items, row-items, IsPrintTo, prints_items, are_methods, steps_items, are_types, items-total, members-total}
@@ -135,20 +135,53 @@ module _ (names : List (List ℕ)) (ts : List Tok) where
 
   -- ---- a step of main
 
+  value_comes : (n : ℕ) (x : Expr) (i j : ℕ) → IsValue names ts n x i j → value names ts n i ≡ got x (n + expr_nodes x) j
+  unfolding value same_sort are_tokens
+  value_comes n x i j (inl (stands, tree, next)) = rw (stand_has names ts spec.new_sorts i refl stands, tree, next) refl
+  value_comes n x i j (inr (stands, tree, next)) =
+      let made : stand ts spec.new_sorts i ≡ false = not_true _ (λ e. let new = (stand_says names ts spec.new_sorts i e).0 in let word = stands.0 in cc) in
+      rw (made, is_at_has ts s.Word i stands.0 (λ e. cc), tree, next) refl
+
+  value_on : (n : ℕ) (x : Expr) (i j : ℕ) → IsValue names ts n x i j → i < j
+  value_on n x i j (inl (stands, tree, next)) = omega arith
+  value_on n x i j (inr (stands, tree, next)) = omega arith
+
+  local_comes : (n : ℕ) (x : Stmt) (i j : ℕ) → IsLocal names ts n x i j → local names ts n i ≡ got x (n + stmt_nodes x) j
+  unfolding local
+  local_comes n x i j h =
+      let nodes : stmt_nodes x ≡ 1 + 1 + (1 + expr_nodes h.init + 0) = ap stmt_nodes h.tree in
+      let read : local names ts n i ≡ got (local_at names ts n i h.end h.init) (n + 3 + expr_nodes h.init) (h.end + 1) =
+      rw (value_comes (n + 3) h.init (i + 3) h.end h.value, is_at_has ts s.Semicolon h.end h.close.0 (λ e. cc)) refl in
+      read ∙ got_same _ x _ _ _ j (sym h.tree) (omega (arith, nodes)) (sym h.next)
+
+  assign_comes : (n : ℕ) (x : Stmt) (i j : ℕ) → IsAssign names ts n x i j → assign names ts n i ≡ got x (n + stmt_nodes x) j
+  unfolding assign
+  assign_comes n x i j h =
+      let nodes : stmt_nodes x ≡ 1 + (1 + 1 + expr_nodes h.from) = ap stmt_nodes h.tree in
+      let read : assign names ts n i ≡ got (assign_at names ts n i h.end h.from) (n + 3 + expr_nodes h.from) (h.end + 1) =
+      rw (value_comes (n + 3) h.from (i + 2) h.end h.value, is_at_has ts s.Semicolon h.end h.close.0 (λ e. cc)) refl in
+      read ∙ got_same _ x _ _ _ j (sym h.tree) (omega (arith, nodes)) (sym h.next)
+
   step_comes : (n : ℕ) (x : Stmt) (i j : ℕ) → IsStep names ts n x i j → step names ts n i ≡ got x (n + stmt_nodes x) j
   unfolding step call same_sort are_tokens
-  step_comes n x i j (inl (stands, tree, next)) = rw (stand_has names ts spec.local_sorts i refl stands, tree, next) refl
-  step_comes n x i j (inr (stands, tree, next)) =
-      let local : stand ts spec.local_sorts i ≡ false = not_true _ (λ e. let word = (stand_says names ts spec.local_sorts i e).1.0 in let dot = stands.1.0 in cc) in
-      rw (local, stand_has names ts spec.call_sorts i refl stands, tree, next) refl
+  step_comes n x i j (inl h) = rw (stand_has names ts spec.local_sorts i refl h.stand) (local_comes n x i j h)
+  step_comes n x i j (inr (inl h)) =
+      let no_local : stand ts spec.local_sorts i ≡ false = not_true _ (λ e. let word = (stand_says names ts spec.local_sorts i e).1.0 in let equals = h.stand.1.0 in cc) in
+      rw (no_local, stand_has names ts spec.assign_sorts i refl h.stand) (assign_comes n x i j h)
+  step_comes n x i j (inr (inr (stands, tree, next))) =
+      let no_local : stand ts spec.local_sorts i ≡ false = not_true _ (λ e. let word = (stand_says names ts spec.local_sorts i e).1.0 in let dot = stands.1.0 in cc) in
+      let no_assign : stand ts spec.assign_sorts i ≡ false = not_true _ (λ e. let equals = (stand_says names ts spec.assign_sorts i e).1.0 in let dot = stands.1.0 in cc) in
+      rw (no_local, no_assign, stand_has names ts spec.call_sorts i refl stands, tree, next) refl
 
   step_on : (n : ℕ) (x : Stmt) (i j : ℕ) → IsStep names ts n x i j → i < j
-  step_on n x i j (inl (stands, tree, next)) = omega arith
-  step_on n x i j (inr (stands, tree, next)) = omega arith
+  step_on n x i j (inl h) = omega (arith, h.next, value_on (n + 3) h.init (i + 3) h.end h.value)
+  step_on n x i j (inr (inl h)) = omega (arith, h.next, value_on (n + 3) h.from (i + 2) h.end h.value)
+  step_on n x i j (inr (inr (stands, tree, next))) = omega arith
 
   step_begins : (n : ℕ) (x : Stmt) (i j : ℕ) → IsStep names ts n x i j → is_at ts s.RightBrace i ≡ false
-  step_begins n x i j (inl (stands, tree, next)) = is_at_not ts s.RightBrace i (λ e. let word = stands.0 in cc)
-  step_begins n x i j (inr (stands, tree, next)) = is_at_not ts s.RightBrace i (λ e. let word = stands.0 in cc)
+  step_begins n x i j (inl h) = is_at_not ts s.RightBrace i (λ e. let word = h.stand.0 in cc)
+  step_begins n x i j (inr (inl h)) = is_at_not ts s.RightBrace i (λ e. let word = h.stand.0 in cc)
+  step_begins n x i j (inr (inr (stands, tree, next))) = is_at_not ts s.RightBrace i (λ e. let word = stands.0 in cc)
 
   step_all : Comes (IsStep names ts) stmt_nodes (length ts) (is_at ts s.RightBrace) (step names ts)
   step_all = record {

@@ -1,15 +1,15 @@
 -- What is read is in the grammar.
-use Rattle.std.proofs.Common.{◌≡◌, ℕ, suc, ◌+◌, ◌&&◌, ◌==◌, List, [], ◌∷◌, ◌++◌, length, codes, Some, refl, sym, ap, subst, ◌∙◌, arith, inl, inr}
+use Rattle.std.proofs.Common.{◌≡◌, ℕ, suc, ◌+◌, ◌&&◌, ◌==◌, List, [], ◌∷◌, ◌++◌, length, true, codes, Some, refl, sym, ap, subst, ◌∙◌, arith, inl, inr}
 use Rattle.std.proofs.lemmas.Bool.Decides.{nat_tests}
-use Rattle.java_tree.specs.Plain.{TypeExpr, Stmt, Member, TypeDecl, SourceUnit}
+use Rattle.java_tree.specs.Plain.{TypeExpr, Expr, Stmt, Member, TypeDecl, SourceUnit}
 use Rattle.java_tree.specs.View.{stmt_row}
 use Rattle.small_lexer.specs.declared.token.Tok.{Tok}
 use Rattle.small_lexer.specs.declared.token.Sort.TheVariants as s
 use Rattle.small_lexer.specs.Reads.{sort_at}
-use Rattle.small_parser.specs.Nodes.{stmt_nodes, member_nodes, members_nodes, decl_nodes}
-use Rattle.small_parser.specs.Grammar.{type_at, node_of, print_at, method_at, class_at, local_at, call_at, main_method, IsMethod, IsClass, IsStep, IsMain, AreTypes, AreMethods, Spells}
+use Rattle.small_parser.specs.Nodes.{expr_nodes, stmt_nodes, member_nodes, members_nodes, decl_nodes}
+use Rattle.small_parser.specs.Grammar.{type_at, node_of, print_at, method_at, class_at, new_at, name_expr, local_at, assign_at, call_at, main_method, IsMethod, IsClass, IsValue, IsLocal, IsAssign, IsStep, IsMain, AreTypes, AreMethods, Spells}
 use Rattle.small_parser.specs.Parse as spec
-use Rattle.small_parser.specs.Parse.{◌>>=◌, Read, is_at, stand, is_print, is_called, token_text, print, prints, method, methods, class_body, class_below, class, call, step, steps, is_main, main, begins_main, classes}
+use Rattle.small_parser.specs.Parse.{◌>>=◌, Read, is_at, stand, is_print, is_called, token_text, print, prints, method, methods, class_body, class_below, class, value, local, assign, call, step, steps, is_main, main, begins_main, classes}
 use Rattle.small_parser.proofs.Steps.{and_true, is_at_says, stand_says, called_says, step_on, step_if, step_either}
 use Rattle.small_parser.proofs.Lists.{Are, total, many_says}
 use Rattle.small_parser.proofs.Forms.{IsPrintTo, prints_row, methods_are, steps_row, types_are, stmts-total, members-total}
@@ -124,19 +124,73 @@ module _ (names : List (List ℕ)) (ts : List Tok) where
         omega (arith, body.number, nodes),
       )))
 
+  value_says : (n i : ℕ) (g : Read Expr) → value names ts n i ≡ Some g → IsValue names ts n g.tree i g.next × (g.number ≡ n + expr_nodes g.tree)
+  unfolding value
+  value_says n i g e =
+      step_either _ _ _ g e
+      (λ stands same.
+      let is : record { tree = new_at names ts n i; number = n + 2; next = i + 4 } ≡ g = cc in
+      subst (λ (g : Read Expr). IsValue names ts n g.tree i g.next × (g.number ≡ n + expr_nodes g.tree)) is
+      (inl (stand_says names ts spec.new_sorts i stands, refl, refl), refl))
+      (λ other e1.
+      step_if _ _ g e1 (λ word same.
+      let is : record { tree = name_expr names ts n i; number = n + 1; next = i + 1 } ≡ g = cc in
+      subst (λ (g : Read Expr). IsValue names ts n g.tree i g.next × (g.number ≡ n + expr_nodes g.tree)) is
+      (inr (((is_at_says ts s.Word i word).1, tt), refl, refl), refl)))
+
+  local_says : (n i : ℕ) (g : Read Stmt) → stand ts spec.local_sorts i ≡ true → local names ts n i ≡ Some g → IsLocal names ts n g.tree i g.next × (g.number ≡ n + stmt_nodes g.tree)
+  unfolding local
+  local_says n i g stands e =
+      step_on (value names ts (n + 3) (i + 3)) _ g e (λ init read e1.
+      step_if _ _ g e1 (λ close same.
+      let of = value_says (n + 3) (i + 3) init read in
+      let is : record { tree = local_at names ts n i init.next init.tree; number = init.number; next = init.next + 1 } ≡ g = cc in
+      subst (λ (g : Read Stmt). IsLocal names ts n g.tree i g.next × (g.number ≡ n + stmt_nodes g.tree)) is (
+        record {
+          stand = stand_says names ts spec.local_sorts i stands;
+          init = init.tree;
+          end = init.next;
+          value = of.0;
+          close = ((is_at_says ts s.Semicolon init.next close).1, tt);
+          next = refl;
+          tree = refl;
+        },
+        omega (arith, of.1),
+      )))
+
+  assign_says : (n i : ℕ) (g : Read Stmt) → stand ts spec.assign_sorts i ≡ true → assign names ts n i ≡ Some g → IsAssign names ts n g.tree i g.next × (g.number ≡ n + stmt_nodes g.tree)
+  unfolding assign
+  assign_says n i g stands e =
+      step_on (value names ts (n + 3) (i + 2)) _ g e (λ from read e1.
+      step_if _ _ g e1 (λ close same.
+      let of = value_says (n + 3) (i + 2) from read in
+      let is : record { tree = assign_at names ts n i from.next from.tree; number = from.number; next = from.next + 1 } ≡ g = cc in
+      subst (λ (g : Read Stmt). IsAssign names ts n g.tree i g.next × (g.number ≡ n + stmt_nodes g.tree)) is (
+        record {
+          stand = stand_says names ts spec.assign_sorts i stands;
+          from = from.tree;
+          end = from.next;
+          value = of.0;
+          close = ((is_at_says ts s.Semicolon from.next close).1, tt);
+          next = refl;
+          tree = refl;
+        },
+        omega (arith, of.1),
+      )))
+
   step_says : (n i : ℕ) (g : Read Stmt) → step names ts n i ≡ Some g → IsStep names ts n g.tree i g.next × (g.number ≡ n + stmt_nodes g.tree)
   unfolding step call
   step_says n i g e =
       step_either _ _ _ g e
-      (λ stands same.
-      let is : record { tree = local_at names ts n i; number = n + 5; next = i + 8 } ≡ g = cc in
-      subst (λ (g : Read Stmt). IsStep names ts n g.tree i g.next × (g.number ≡ n + stmt_nodes g.tree)) is
-      (inl (stand_says names ts spec.local_sorts i stands, refl, refl), refl))
+      (λ stands e1. let is = local_says n i g stands e1 in (inl is.0, is.1))
       (λ other e1.
-      step_if _ _ g e1 (λ stands same.
+      step_either _ _ _ g e1
+      (λ stands e2. let is = assign_says n i g stands e2 in (inr (inl is.0), is.1))
+      (λ other e2.
+      step_if _ _ g e2 (λ stands same.
       let is : record { tree = call_at names ts n i; number = n + 3; next = i + 6 } ≡ g = cc in
       subst (λ (g : Read Stmt). IsStep names ts n g.tree i g.next × (g.number ≡ n + stmt_nodes g.tree)) is
-      (inr (stand_says names ts spec.call_sorts i stands, refl, refl), refl)))
+      (inr (inr (stand_says names ts spec.call_sorts i stands, refl, refl)), refl))))
 
   main_says : (n i : ℕ) (g : Read TypeDecl) → main names ts n i ≡ Some g → IsMain names ts n g.tree i g.next
   unfolding main is_main

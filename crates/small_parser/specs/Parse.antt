@@ -3,14 +3,14 @@ use Rattle.std.specs.Prelude.{◌≡◌, ℕ, zero, suc, ◌+◌, Bool, true, fa
 use Rattle.std.specs.Option.{option_and_then}
 use Rattle.std.specs.Str.{bytes_eq}
 use denote.Enum.Bare.{sameb}
-use Rattle.java_tree.specs.Plain.{TypeExpr, Stmt, Member, TypeDecl, SourceUnit}
+use Rattle.java_tree.specs.Plain.{TypeExpr, Expr, Stmt, Member, TypeDecl, SourceUnit}
 use Rattle.java_tree.specs.View.{stmt_row}
 use Rattle.small_lexer.specs.contracts.token.Sort.{the_type}
 use Rattle.small_lexer.specs.declared.token.Tok.{Tok}
 use Rattle.small_lexer.specs.declared.token.Sort.{Sort}
 use Rattle.small_lexer.specs.declared.token.Sort.TheVariants as s
 use Rattle.small_lexer.specs.Reads.{sort_at, text_at}
-use Rattle.small_parser.specs.Grammar.{node_of, type_at, print_at, method_at, class_at, local_at, call_at, main_method}
+use Rattle.small_parser.specs.Grammar.{node_of, type_at, print_at, method_at, class_at, new_at, name_expr, local_at, assign_at, call_at, main_method}
 use Rattle.small_parser.specs.declared.fault.SyntaxFault.{SyntaxFault}
 use Rattle.small_parser.specs.declared.fault.SyntaxFault.TheVariants.{Bad, NoMemory}
 
@@ -62,7 +62,13 @@ abbrev pub class_below_sorts : List Sort
 class_below_sorts = s.Class ∷ s.Word ∷ s.Extends ∷ s.Word ∷ s.LeftBrace ∷ []
 
 abbrev pub local_sorts : List Sort
-local_sorts = s.Word ∷ s.Word ∷ s.Equals ∷ s.New ∷ s.Word ∷ s.Open ∷ s.Close ∷ s.Semicolon ∷ []
+local_sorts = s.Word ∷ s.Word ∷ s.Equals ∷ []
+
+abbrev pub assign_sorts : List Sort
+assign_sorts = s.Word ∷ s.Equals ∷ []
+
+abbrev pub new_sorts : List Sort
+new_sorts = s.New ∷ s.Word ∷ s.Open ∷ s.Close ∷ []
 
 abbrev pub call_sorts : List Sort
 call_sorts = s.Word ∷ s.Dot ∷ s.Word ∷ s.Open ∷ s.Close ∷ s.Semicolon ∷ []
@@ -123,8 +129,25 @@ module _ (names : List (List ℕ)) (ts : List Tok) where
   unfoldable pub call : ℕ → ℕ → Option (Read Stmt)
   call n i = if stand ts call_sorts i then Some (record { tree = call_at names ts n i; number = n + 3; next = i + 6 }) else None
 
+  unfoldable pub value : ℕ → ℕ → Option (Read Expr)
+  value n i =
+      if stand ts new_sorts i
+      then Some (record { tree = new_at names ts n i; number = n + 2; next = i + 4 })
+      else (if is_at ts s.Word i then Some (record { tree = name_expr names ts n i; number = n + 1; next = i + 1 }) else None)
+
+  -- a local variable and an assignment, where what stands before the value has been seen
+  unfoldable pub local : ℕ → ℕ → Option (Read Stmt)
+  local n i =
+      value (n + 3) (i + 3)
+      >>= (λ init. if is_at ts s.Semicolon init.next then Some (record { tree = local_at names ts n i init.next init.tree; number = init.number; next = init.next + 1 }) else None)
+
+  unfoldable pub assign : ℕ → ℕ → Option (Read Stmt)
+  assign n i =
+      value (n + 3) (i + 2)
+      >>= (λ from. if is_at ts s.Semicolon from.next then Some (record { tree = assign_at names ts n i from.next from.tree; number = from.number; next = from.next + 1 }) else None)
+
   unfoldable pub step : ℕ → ℕ → Option (Read Stmt)
-  step n i = if stand ts local_sorts i then Some (record { tree = local_at names ts n i; number = n + 5; next = i + 8 }) else call n i
+  step n i = if stand ts local_sorts i then local n i else (if stand ts assign_sorts i then assign n i else call n i)
 
   abbrev pub steps : ℕ → ℕ → Option (Read (List Stmt))
   steps = until (is_at ts s.RightBrace) step

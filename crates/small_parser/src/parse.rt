@@ -8,14 +8,14 @@ ghost use Rattle.small_parser.specs.declared.fault.SyntaxFault.TheVariants.{Bad}
 ghost use Rattle.small_lexer.specs.declared.token.Tok.{Tok};
 ghost use Rattle.small_parser.specs.Parse as spec;
 ghost use Rattle.small_parser.specs.Parse.{Reads};
-ghost use Rattle.small_parser.specs.Seen.{seen, IsPlace};
+ghost use Rattle.small_parser.specs.Seen.{seen, IsPlace, IsValuePlace};
 
 use crate::fault::SyntaxFault;
-use crate::sorts::{CALL, CLASS, CLASS_BELOW, LOCAL, MAIN, METHOD, PRINT};
+use crate::sorts::{ASSIGN, CALL, CLASS, CLASS_BELOW, LOCAL, MAIN, METHOD, NEW, PRINT};
 use crate::tokens::Parser;
-use small_lexer::{Sort, Tok};
-use java_tree::tree::{Member, SourceUnit, Stmt, TypeDecl, TypeExpr};
+use java_tree::tree::{Expr, Member, SourceUnit, Stmt, TypeDecl, TypeExpr};
 use java_tree::{Items, Names};
+use small_lexer::{Sort, Tok};
 use std::alloc::{AllocError, Global};
 
 /// A tree, the number after those of its nodes, and the place after its tokens.
@@ -200,24 +200,85 @@ impl Parser<'_> {
         })
     }
 
-    /// `A x = new B();` or `x.m();`
+    /// `new B()` or `x`
+    #[tactic(auto, unfolding(crate::specs::Parse::value))]
+    fn value(&self, number: u32, at: usize) -> Result<Parsed<Expr>, SyntaxFault>
+        requires { IsValuePlace self.now.toks.now number at }
+        ensures read { Reads (seen plain) (spec.value self.now.names.now self.now.toks.now number at) result }
+        ensures place { IfOk result (λ x. (at < x.next) × IsValuePlace self.now.toks.now x.number x.next) }
+    {
+        if self.stand(&NEW, at) {
+            return Ok(Parsed {
+                tree: self.new_tree(number, at)?,
+                number: number + 2,
+                next: at + 4,
+            });
+        }
+        if !self.is_at(Sort::Word, at) {
+            return Err(SyntaxFault::Bad);
+        }
+        Ok(Parsed {
+            tree: self.name_expr(number, at),
+            number: number + 1,
+            next: at + 1,
+        })
+    }
+
+    /// `A x = ..;`, where what stands before the value has been seen.
+    #[tactic(auto, unfolding(crate::specs::Parse::local))]
+    fn local(&self, number: u32, at: usize) -> Result<Parsed<Stmt>, SyntaxFault>
+        requires place { IsPlace self.now.toks.now number at }
+        requires within { at + 3 ≤ length self.now.toks.now }
+        ensures read { Reads (seen stmt_plain) (spec.local self.now.names.now self.now.toks.now number at) result }
+        ensures place { IfOk result (λ x. (at < x.next) × IsPlace self.now.toks.now x.number x.next) }
+    {
+        let init = self.value(number + 3, at + 3)?;
+        if !self.is_at(Sort::Semicolon, init.next) {
+            return Err(SyntaxFault::Bad);
+        }
+        Ok(Parsed {
+            tree: self.local_tree(number, at, init.next, init.tree)?,
+            number: init.number,
+            next: init.next + 1,
+        })
+    }
+
+    /// `x = ..;`, where what stands before the value has been seen.
+    #[tactic(auto, unfolding(crate::specs::Parse::assign))]
+    fn assign(&self, number: u32, at: usize) -> Result<Parsed<Stmt>, SyntaxFault>
+        requires place { IsPlace self.now.toks.now number at }
+        requires within { at + 2 ≤ length self.now.toks.now }
+        ensures read { Reads (seen stmt_plain) (spec.assign self.now.names.now self.now.toks.now number at) result }
+        ensures place { IfOk result (λ x. (at < x.next) × IsPlace self.now.toks.now x.number x.next) }
+    {
+        let from = self.value(number + 3, at + 2)?;
+        if !self.is_at(Sort::Semicolon, from.next) {
+            return Err(SyntaxFault::Bad);
+        }
+        Ok(Parsed {
+            tree: self.assign_tree(number, at, from.next, from.tree)?,
+            number: from.number,
+            next: from.next + 1,
+        })
+    }
+
+    /// A local variable, an assignment or a call, as the first tokens tell.
     #[tactic(auto, unfolding(crate::specs::Parse::step))]
     fn step(&self, number: u32, at: usize) -> Result<Parsed<Stmt>, SyntaxFault>
         requires { IsPlace self.now.toks.now number at }
         ensures read { Reads (seen stmt_plain) (spec.step self.now.names.now self.now.toks.now number at) result }
         ensures place { IfOk result (λ x. (at < x.next) × IsPlace self.now.toks.now x.number x.next) }
     {
-        if !self.stand(&LOCAL, at) {
-            return self.call(number, at);
+        if self.stand(&LOCAL, at) {
+            self.local(number, at)
+        } else if self.stand(&ASSIGN, at) {
+            self.assign(number, at)
+        } else {
+            self.call(number, at)
         }
-        Ok(Parsed {
-            tree: self.local_tree(number, at)?,
-            number: number + 5,
-            next: at + 8,
-        })
     }
 
-    /// Local variables and calls up to a brace.
+    /// Local variables, assignments and calls up to a brace.
     fn steps(&self, number: u32, at: usize) -> Result<Parsed<Items<Stmt>>, SyntaxFault>
         requires { IsPlace self.now.toks.now number at }
         ensures read { Reads (seen (map stmt_plain)) (spec.steps self.now.names.now self.now.toks.now number at) result }
@@ -318,7 +379,7 @@ impl Parser<'_> {
 }
 
 /// The tree of a small file: classes with methods that print literals, and then a class with `main`, which makes
-/// objects and calls methods of them. Node numbers are in preorder, and the file has 0. `names` has the texts of the
+/// objects, assigns them to local variables and calls methods of them. Node numbers are in preorder, and the file has 0. `names` has the texts of the
 /// tokens.
 ///
 /// # Errors

@@ -18,8 +18,14 @@ pub const CLASS: [Sort; 3] = [Class, Word, LeftBrace];
 /// `class C extends A {`
 pub const CLASS_BELOW: [Sort; 5] = [Class, Word, Extends, Word, LeftBrace];
 
-/// `A x = new B();`
-pub const LOCAL: [Sort; 8] = [Word, Word, Equals, New, Word, Open, Close, Semicolon];
+/// `A x =`
+pub const LOCAL: [Sort; 3] = [Word, Word, Equals];
+
+/// `x =`
+pub const ASSIGN: [Sort; 2] = [Word, Equals];
+
+/// `new B()`
+pub const NEW: [Sort; 4] = [New, Word, Open, Close];
 
 /// `x.m();`
 pub const CALL: [Sort; 6] = [Word, Dot, Word, Open, Close, Semicolon];

@@ -4,9 +4,9 @@ ghost use Rattle.std.specs.Prelude.{◌≡◌, ◌+◌, ◌<◌, ◌≤◌, leng
 ghost use Rattle.std.specs.Option.{option_copied};
 ghost use Rattle.small_parser.specs.Parse as spec;
 
-use small_lexer::{Sort, Tok, sort_at, text_at};
 use java_tree::Names;
 use java_tree::tree::Name;
+use small_lexer::{Sort, Tok, sort_at, text_at};
 use std::alloc::Global;
 
 /// The tokens of a file, the table of their names, and what trees are made with.

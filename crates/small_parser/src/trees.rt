@@ -6,11 +6,11 @@ ghost use Rattle.java_tree.specs.View.{plain, plains, type_plain, var_plain, par
 ghost use Rattle.small_parser.specs.Grammar as grammar;
 
 use crate::tokens::Parser;
-use small_lexer::{span_of, text_at, to_at};
 use java_tree::tree::{
     Expr, ExprForm, Head, Member, Mod, Name, Node, Param, Stmt, StmtForm, TypeDecl, TypeExpr, Var,
 };
 use java_tree::{Boxed, Items};
+use small_lexer::{span_of, text_at, to_at};
 use std::alloc::{AllocError, Global};
 
 /// The bytes of a text as UTF-16 code units.
@@ -141,11 +141,10 @@ impl Parser<'_> {
     }
 
     /// `new B()`
-    fn new_tree(&self, number: u32, at: usize) -> Result<Expr, AllocError>
+    pub fn new_tree(&self, number: u32, at: usize) -> Result<Expr, AllocError>
         requires number { number + 1 < 2 ^ 32 }
         requires at { at + 4 < 2 ^ 32 }
-        ensures { IfOk result (λ x. plain x ≡ t.New (grammar.node_of self.now.names.now self.now.toks.now number at (at + 4))
-            (grammar.type_at self.now.names.now self.now.toks.now (number + 1) (at + 1) 0) t.End) }
+        ensures { IfOk result (λ x. plain x ≡ grammar.new_at self.now.names.now self.now.toks.now number at) }
     {
         let ty = self.type_expr(number + 1, at + 1, 0)?;
         Ok(Expr {
@@ -157,28 +156,59 @@ impl Parser<'_> {
         })
     }
 
-    /// `A x = new B();`
-    pub fn local_tree(&self, number: u32, at: usize) -> Result<Stmt, AllocError>
-        requires number { number + 4 < 2 ^ 32 }
-        requires at { at + 8 < 2 ^ 32 }
-        ensures { IfOk result (λ x. stmt_plain x ≡ grammar.local_at self.now.names.now self.now.toks.now number at) }
+    /// `A x = ..;`, where the value ends before the token `end`.
+    pub fn local_tree(
+        &self,
+        number: u32,
+        at: usize,
+        end: usize,
+        init: Expr,
+    ) -> Result<Stmt, AllocError>
+        requires number { number + 2 < 2 ^ 32 }
+        requires at { at + 1 < 2 ^ 32 }
+        requires end { end + 1 < 2 ^ 32 }
+        ensures { IfOk result (λ x. stmt_plain x ≡ grammar.local_at self.now.names.now self.now.toks.now number at end (plain init)) }
     {
-        let made = self.new_tree(number + 3, at + 3)?;
         let var = Var {
-            node: self.node(number + 2, at + 1, at + 7),
+            node: self.node(number + 2, at + 1, end),
             name: self.name(at + 1),
             dims: 0,
-            init: Some(made),
+            init: Some(init),
         };
         let vars = Items::one(self.alloc, var)?;
         let ty = self.type_expr(number + 1, at, 0)?;
         Ok(Stmt {
-            node: self.node(number, at, at + 8),
+            node: self.node(number, at, end + 1),
             form: StmtForm::Local {
                 is_final: false,
                 ty,
                 vars,
             },
+        })
+    }
+
+    /// `x = ..;`, where the value ends before the token `end`.
+    pub fn assign_tree(
+        &self,
+        number: u32,
+        at: usize,
+        end: usize,
+        from: Expr,
+    ) -> Result<Stmt, AllocError>
+        requires number { number + 2 < 2 ^ 32 }
+        requires at { at < 2 ^ 32 }
+        requires end { end + 1 < 2 ^ 32 }
+        ensures { IfOk result (λ x. stmt_plain x ≡ grammar.assign_at self.now.names.now self.now.toks.now number at end (plain from)) }
+    {
+        let to = Boxed::new(self.alloc, self.name_expr(number + 2, at))?;
+        let from = Boxed::new(self.alloc, from)?;
+        let assign = Expr {
+            node: self.node(number + 1, at, end),
+            form: ExprForm::Assign { op: None, to, from },
+        };
+        Ok(Stmt {
+            node: self.node(number, at, end + 1),
+            form: StmtForm::Value(assign),
         })
     }
 

@@ -31,6 +31,7 @@ impl<'a, R> Model for DirFiles<'a, R> {
 }
 
 impl<R: rt::Files> DirFiles<'_, R> {
+    /// No call has failed yet. It takes no memory.
     pub fn new(rt: &R) -> DirFiles<'_, R>
         ensures { result ≡ no_counts }
     {
@@ -96,7 +97,7 @@ fn read_file(
     }
 }
 
-/// Appends the first `most` bytes that a reader gives, or all where it gives fewer.
+/// Appends the first `most` bytes that a reader gives, or all where it gives fewer. A read that gives nothing is the end.
 fn read_pieces<R: Read>(file: &mut R, most: usize, into: &mut Vec<u8>) -> Result<(), FileFault>
     ensures more { (more : List ℕ) × (into.new.items ≡ into.old.items ++ more) × (length more ≤ most) }
     ensures known { OnOk result (IfSome (R.remaining file.old) (λ bytes. into.new.items ≡ into.old.items ++ take most bytes)) }
@@ -106,7 +107,7 @@ fn read_pieces<R: Read>(file: &mut R, most: usize, into: &mut Vec<u8>) -> Result
         .resize(most.min(PIECE), 0)
         .or(Err(FileFault::NoMemory))?;
     let mut left = most;
-    // Each turn reads a byte at least, or is the last.
+    // Each turn reads a byte at least, or is the last, so there are at most `most` of them.
     'pieces: while left > 0 {
         let asked = left.min(piece.len());
         let count = read_piece(file, &mut piece[..asked], into)?;
@@ -144,12 +145,12 @@ fn write_file(rt: &impl rt::Files, name: &str, bytes: &[u8]) -> io::Result<()> {
     write_pieces(&mut fs::create(rt, name)?, bytes)
 }
 
-/// Writes all bytes, and flushes.
+/// Writes all bytes, and flushes. A write that takes nothing is a fault.
 fn write_pieces<W: Write>(out: &mut W, bytes: &[u8]) -> io::Result<()>
     ensures { OnOk result (Appends (W.contents out.old) (W.contents out.new) bytes.now) }
 {
     let mut rest = bytes;
-    // Each turn writes a byte at least.
+    // Each turn writes a byte at least, so there are at most as many as bytes.
     'pieces: while !rest.is_empty() {
         let count = out.write(rest)?;
         if count == 0 {
@@ -176,6 +177,7 @@ impl<'a, R> Model for StdSink<'a, R> {
 }
 
 impl<R: Print> StdSink<'_, R> {
+    /// No put has failed yet. It takes no memory.
     pub fn new(rt: &R) -> StdSink<'_, R>
         ensures { result ≡ 0 }
     {
@@ -203,5 +205,86 @@ impl<R: Print> Sink for StdSink<'_, R> {
             return Err(SinkFailed);
         }
         Ok(())
+    }
+}
+
+#[cfg(test)]
+mod tests {
+    use super::*;
+    use std::fmt::Display;
+    use std::test::Fail;
+
+    /// Far more than one piece, and no piece like another.
+    const SIZE: u32 = 200_000;
+
+    #[test]
+    fn writes_and_reads_a_folder(rt: HostRuntime) -> Result<(), Fail> {
+        let alloc = rt.alloc();
+        let mut bytes = Vec::with_capacity(alloc, SIZE as usize)?;
+        for i in 0..SIZE {
+            bytes.push((i % 251) as u8)?;
+        }
+        let mut files = DirFiles::new(&rt);
+        let name = "folder_of_test/out/Large.java";
+        assert_eq!(rt; files.write(name, b"what was there"), Ok(()));
+        assert_eq!(rt; files.write(name, &bytes), Ok(()));
+        let mut into = Vec::new(alloc);
+        assert_eq!(rt; files.read(name, usize::MAX, &mut into), Ok(()));
+        assert!(rt; into.as_slice() == bytes.as_slice(), "all bytes");
+        let mut front = Vec::new(alloc);
+        assert_eq!(rt; files.read(name, 70_000, &mut front), Ok(()));
+        assert_eq!(rt; front.len(), 70_000);
+        assert!(rt; bytes.starts_with(&front), "the first bytes");
+
+        assert_eq!(rt;
+            files.read("folder_of_test/A.java", 9, &mut front),
+            Err(FileFault::Missing)
+        );
+        assert_eq!(rt;
+            files.read("folder_of_test", 9, &mut front),
+            Err(FileFault::Failed)
+        );
+        let below_a_file = "folder_of_test/out/Large.java/A.java";
+        assert_eq!(rt; files.write(below_a_file, b""), Err(WriteFailed));
+        let counts = FileCounts {
+            misses: 1,
+            read_faults: 1,
+            write_faults: 1,
+        };
+        assert_eq!(rt; files.counts(), counts);
+        fs::remove_dir_all(&rt, "folder_of_test")?;
+        Ok(())
+    }
+
+    /// Output that takes no byte.
+    struct Full;
+
+    impl Print for Full {
+        fn print<D: Display + Drop>(&self, _value: D) -> io::Result<()> {
+            Ok(())
+        }
+
+        fn println<D: Display + Drop>(&self, _value: D) -> io::Result<()> {
+            Ok(())
+        }
+
+        fn write_all(&self, _bytes: &[u8]) -> io::Result<()> {
+            Ok(())
+        }
+
+        fn write_some(&self, _bytes: &[u8]) -> io::Result<usize> {
+            Ok(0)
+        }
+    }
+
+    #[test]
+    fn prints(rt: HostRuntime) {
+        let mut sink = StdSink::new(&rt);
+        assert_eq!(rt; sink.put(b"done 1 edits\n"), Ok(()));
+        assert_eq!(rt; sink.faults(), 0);
+        let mut full = StdSink::new(&Full);
+        assert_eq!(rt; full.put(b""), Ok(()));
+        assert_eq!(rt; full.put(b"done"), Err(SinkFailed));
+        assert_eq!(rt; full.faults(), 1);
     }
 }

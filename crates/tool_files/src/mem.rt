@@ -139,7 +139,8 @@ impl MemFiles {
         })
     }
 
-    /// Makes room for this many new names, and for this many bytes of names and contents.
+    /// Makes the room at least this many new names, and this many bytes of names and contents.
+    /// A write takes its name, where that is new, and its bytes; nothing is given back.
     pub fn reserve(&mut self, names: usize, bytes: usize) -> Result<(), NoMemory>
         ensures ok { OnOk result (self.new ≡ record self.old {
           name_room = max self.old.name_room names;
@@ -154,7 +155,7 @@ impl MemFiles {
         Ok(())
     }
 
-    /// The bytes of a name.
+    /// The bytes of a name, where it is there. It takes no memory.
     pub fn bytes(&self, name: &str) -> Option<&[u8]>
         ensures { option_copied result ≡ look_up self.now.files name.now }
     {
@@ -300,12 +301,12 @@ impl Model for MemSink {
 }
 
 impl MemSink {
-    /// There is no room for puts.
-    pub fn new(alloc: Global, fail: Vec<u32>) -> MemSink
+    /// There is no room for puts. It takes no memory.
+    pub fn new(fail: Vec<u32>) -> MemSink
         ensures { result ≡ sink_store fail.items }
     {
         MemSink {
-            written: Vec::new(alloc),
+            written: Vec::new(*fail.allocator()),
             fail,
             calls: 0,
             room: 0,
@@ -313,7 +314,7 @@ impl MemSink {
         }
     }
 
-    /// Makes room for this many bytes.
+    /// Makes the room at least this many bytes. A put takes its bytes.
     pub fn reserve(&mut self, bytes: usize) -> Result<(), NoMemory>
         ensures ok { OnOk result (self.new ≡ record self.old { room = max self.old.room bytes }) }
         ensures err { OnErr result (self.new ≡ self.old) }
@@ -323,7 +324,7 @@ impl MemSink {
         Ok(())
     }
 
-    /// The bytes put so far.
+    /// The bytes put so far. It takes no memory.
     pub fn written(&self) -> &[u8]
         ensures { result.now ≡ self.now.written }
     {
@@ -439,9 +440,53 @@ mod tests {
     }
 
     #[test]
+    fn each_call_fails_in_turn(rt: HostRuntime) -> Result<(), Fail> {
+        let alloc = rt.alloc();
+        for number in 1..=5u32 {
+            let mut files = one_file(alloc, vec![in alloc; number]?)?;
+            files.reserve(1, 28)?;
+            let mut into = Vec::new(alloc);
+            let answers = [
+                files.read("A.java", 10, &mut into).is_err(),
+                files.write("B.java", b"class B {}").is_err(),
+                files.read("A.java", 10, &mut into).is_err(),
+                files.write("A.java", b"other!").is_err(),
+                files.read("A.java", 0, &mut into).is_err(),
+            ];
+            let fails = [
+                number == 1,
+                number == 2,
+                number == 3,
+                number == 4,
+                number == 5,
+            ];
+            assert_eq!(rt; answers, fails, "of the files, call {number}");
+            let kept = number == 4;
+            assert_eq!(rt;
+                files.bytes("A.java") == Some(b"class A {}".as_slice()),
+                kept
+            );
+            assert_eq!(rt; files.bytes("A.java") == Some(b"other!".as_slice()), !kept);
+            assert_eq!(rt; files.bytes("B.java").is_none(), number == 2);
+
+            let mut sink = MemSink::new(vec![in alloc; number]?);
+            sink.reserve(5)?;
+            for put in 1..=5 {
+                assert_eq!(rt;
+                    sink.put(b"1").is_err(),
+                    put == number,
+                    "of the sink, put {put}"
+                );
+            }
+            assert_eq!(rt; sink.written(), b"1111".as_slice());
+        }
+        Ok(())
+    }
+
+    #[test]
     fn puts(rt: HostRuntime) -> Result<(), Fail> {
         let alloc = rt.alloc();
-        let mut sink = MemSink::new(alloc, vec![in alloc; 2]?);
+        let mut sink = MemSink::new(vec![in alloc; 2]?);
         sink.reserve(6)?;
         assert_eq!(rt; sink.put(b"done"), Ok(()));
         assert_eq!(rt; sink.put(b"!"), Err(SinkFailed), "the second call");

@@ -40,5 +40,5 @@ returns-in_default-as_slice-2 c = λ u ls of binds.
 
 pub returns-in-Value : goal.returns-in-Value
 returns-in-Value c = λ u ls of binds.
-    subst (λ x. Decides u c.args.declared.now.world ls x c.args.scope.now (Ok c.call_holds.result)) (sym (plain_value c.args.step.now c.in-Value.e c.in-Value.is))
-    (c.call_holds.ensures u ls of binds, λ b. binds)
+    subst (λ x. Decides u c.args.declared.now.world ls x c.args.scope.now (Ok c.performed_holds.result)) (sym (plain_value c.args.step.now c.in-Value.e c.in-Value.is))
+    (c.performed_holds.ensures u ls of binds, λ b. binds)

@@ -14,6 +14,7 @@ returns c = λ u pick hs rest tables holding.
     let s = ran_of c.enter.new.self in
     let prints : lines u m ≡ printed (stmts_plain c.body.result.now) = c.body.ensures u pick tables in
     let is : ran_of c.print.new.self ≡ record s { out = s.out ++ lines u m } = ap ran_of c.in_ok-print.ensures ∙ ap (λ l. record s { out = s.out ++ l }) (sym prints) in (
+      hs,
       holding,
       called u pick k rest hs (ran_of c.args.machine.now) class m c.in_ok-enter.field-0 s (ran_of c.print.new.self)
           (sym (c.get.ensures hs holding) ∙ c.in-Some.is)

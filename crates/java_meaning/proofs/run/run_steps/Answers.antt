@@ -1,8 +1,7 @@
 use Rattle.std.proofs.Common.{◌+◌, ◌∙◌, drop}
-use Rattle.java_tree.specs.View.{stmt_plain, stmts_plain}
-use Rattle.java_meaning.specs.Steps as spec
+use Rattle.java_tree.specs.View.{stmts_plain}
 use Rattle.java_meaning.specs.Simple.{steps_run}
-use Rattle.java_meaning.specs.Runs.{ran_of, held_after}
+use Rattle.java_meaning.specs.Runs.{ran_of}
 use Rattle.java_meaning.proofs.Calls.{first_step, no_step, is_done, is_cut, is_on}
 use Rattle.java_meaning.proofs.run.run_steps.Goals as goal
 
@@ -13,7 +12,7 @@ returns-in-Done c = λ u pick hs tables holding.
     let steps = c.args.steps.now in
     let now = c.loop-step.invariant u pick hs tables holding in
     now.2 ∙ first_step u w pick steps i now.0 (ran_of c.loop-step.machine) c.step-item.result c.loop-step-test.true c.step-item.is
-    ∙ is_done c.in_ok-run_step.field-0 c.run_step.new.locals _ (ran_of c.run_step.new.machine) (λ hs r. steps_run u w pick (stmts_plain (drop (i + 1) steps)) hs r) _
+    ∙ is_done c.in_ok-run_step.field-0 c.run_step.new.locals (ran_of c.run_step.new.machine) (λ hs r. steps_run u w pick (stmts_plain (drop (i + 1) steps)) hs r) _
     (c.in_ok-run_step.ensures u pick now.0 (λ hs r. steps_run u w pick (stmts_plain (drop (i + 1) steps)) hs r) tables now.1) c.in-Done.is
 
 pub returns-in-AtBound : goal.returns-in-AtBound
@@ -23,7 +22,7 @@ returns-in-AtBound c = λ u pick hs tables holding.
     let steps = c.args.steps.now in
     let now = c.loop-step.invariant u pick hs tables holding in
     now.2 ∙ first_step u w pick steps i now.0 (ran_of c.loop-step.machine) c.step-item.result c.loop-step-test.true c.step-item.is
-    ∙ is_cut c.in_ok-run_step.field-0 c.run_step.new.locals _ (ran_of c.run_step.new.machine) (λ hs r. steps_run u w pick (stmts_plain (drop (i + 1) steps)) hs r) _
+    ∙ is_cut c.in_ok-run_step.field-0 c.run_step.new.locals (ran_of c.run_step.new.machine) (λ hs r. steps_run u w pick (stmts_plain (drop (i + 1) steps)) hs r) _
     (c.in_ok-run_step.ensures u pick now.0 (λ hs r. steps_run u w pick (stmts_plain (drop (i + 1) steps)) hs r) tables now.1) c.in-AtBound.is
 
 pub loop-step-preserved : goal.loop-step-preserved
@@ -32,12 +31,11 @@ loop-step-preserved c = λ u pick hs tables holding.
     let i = c.loop-step.step-index in
     let steps = c.args.steps.now in
     let now = c.loop-step.invariant u pick hs tables holding in
-    let after = held_after (spec.creation_of u (stmt_plain c.step-item.result)) now.0 in
-    let on = is_on c.in_ok-run_step.field-0 c.run_step.new.locals after (ran_of c.run_step.new.machine) (λ hs r. steps_run u w pick (stmts_plain (drop (i + 1) steps)) hs r) _
+    let on = is_on c.in_ok-run_step.field-0 c.run_step.new.locals (ran_of c.run_step.new.machine) (λ hs r. steps_run u w pick (stmts_plain (drop (i + 1) steps)) hs r) _
     (c.in_ok-run_step.ensures u pick now.0 (λ hs r. steps_run u w pick (stmts_plain (drop (i + 1) steps)) hs r) tables now.1) c.in-On.is in (
-      after,
       on.0,
-      now.2 ∙ first_step u w pick steps i now.0 (ran_of c.loop-step.machine) c.step-item.result c.loop-step-test.true c.step-item.is ∙ on.1,
+      on.1,
+      now.2 ∙ first_step u w pick steps i now.0 (ran_of c.loop-step.machine) c.step-item.result c.loop-step-test.true c.step-item.is ∙ on.2,
     )
 
 pub returns : goal.returns

@@ -1,12 +1,14 @@
 use Rattle.std.proofs.Common.{◌∙◌, inl, inr, IfOk, codes, Err, sym, ap, subst, arith}
 use Rattle.edit_writer.specs.declared.places.Place.{Place}
 use Rattle.generalize_type.specs.Plans.{HasNoPlace, IsNotAbove, IsRefusedAt}
+use Rattle.generalize_type.specs.Steps.{IsConstrained}
+use Rattle.constraint_terms.specs.Question.{Assign, Member}
 use Rattle.java_tree.specs.View.{unit_plain}
 use Rattle.report_text.specs.Report.{refused, refused_at}
 use Rattle.refactor_app.specs.Asked.{request_of}
 use Rattle.refactor_app.specs.Verdicts.{asked}
 use Rattle.refactor_app.specs.Decided.{IsLine}
-use Rattle.refactor_app.proofs.Deciding.{given, target_low, too_far, no_place, not_above, unmet, has_call, refused_by}
+use Rattle.refactor_app.proofs.Deciding.{given, target_low, too_far, no_place, not_above, unmet, constrained, refused_by}
 use Rattle.refactor_app.proofs.decide.judge.Goals as goal
 
 pub returns-in_default : goal.returns-in_default
@@ -21,25 +23,42 @@ pub generalize_small-requires-clause-target : goal.generalize_small-requires-cla
 generalize_small-requires-clause-target c = target_low c.args.text.now c.args.small.now c.requires.program c.args.q.now.ty.now c.args.target c.requires.target
 
 -- what was said of the place that the request has
+module _ (c : goal.In-Err-Assign) where
+  pub said-Assign : IsRefusedAt c.args.small.now.names c.args.text.now (unit_plain c.args.small.now.unit) c.args.small.now.declared.world (asked (request_of c.args.q.now)) c.args.target Assign c.in-Err-Assign.number
+  said-Assign =
+      subst (λ (p : Place). IsRefusedAt c.args.small.now.names c.args.text.now (unit_plain c.args.small.now.unit) c.args.small.now.declared.world p c.args.target Assign c.in-Err-Assign.number)
+      c.in-Some.ensures.some (c.generalize_small.ensures.assign c.in-Err-Assign.number (c.in-Err-Assign.is ∙ ap Err c.in-Err-Assign.field-0-is))
+
+  pub has-Assign : IsConstrained (unit_plain c.args.small.now.unit) said-Assign.node
+  has-Assign = constrained c.args.text.now c.args.small.now c.requires.program (request_of c.args.q.now) c.args.target c.requires.target Assign c.in-Err-Assign.number said-Assign
+
+-- what was said of the place that the request has
 module _ (c : goal.In-Err-Member) where
-  pub said : IsRefusedAt c.args.small.now.names c.args.text.now (unit_plain c.args.small.now.unit) c.args.small.now.declared.world (asked (request_of c.args.q.now)) c.args.target c.in-Err-Member.number
-  said =
-      subst (λ (p : Place). IsRefusedAt c.args.small.now.names c.args.text.now (unit_plain c.args.small.now.unit) c.args.small.now.declared.world p c.args.target c.in-Err-Member.number)
+  pub said-Member : IsRefusedAt c.args.small.now.names c.args.text.now (unit_plain c.args.small.now.unit) c.args.small.now.declared.world (asked (request_of c.args.q.now)) c.args.target Member c.in-Err-Member.number
+  said-Member =
+      subst (λ (p : Place). IsRefusedAt c.args.small.now.names c.args.text.now (unit_plain c.args.small.now.unit) c.args.small.now.declared.world p c.args.target Member c.in-Err-Member.number)
       c.in-Some.ensures.some (c.generalize_small.ensures.member c.in-Err-Member.number (c.in-Err-Member.is ∙ ap Err c.in-Err-Member.field-0-is))
 
-pub unmet_at-requires-clause-call : goal.unmet_at-requires-clause-call
-unmet_at-requires-clause-call c =
-    let r = said c in
-    (r.call, has_call c.args.text.now c.args.small.now c.requires.program (request_of c.args.q.now) c.args.target c.requires.target c.in-Err-Member.number r, sym r.number_is)
+  pub has-Member : IsConstrained (unit_plain c.args.small.now.unit) said-Member.node
+  has-Member = constrained c.args.text.now c.args.small.now c.requires.program (request_of c.args.q.now) c.args.target c.requires.target Member c.in-Err-Member.number said-Member
+
+pub unmet_at-requires-clause-node : goal.unmet_at-requires-clause-node
+unmet_at-requires-clause-node c = ((said-Assign c).node, has-Assign c, sym (said-Assign c).number_is)
+
+pub returns-in-Err-Assign : goal.returns-in-Err-Assign
+returns-in-Err-Assign c =
+    refused_by (request_of c.args.q.now) c.args.text.now _ c.unmet_at.result
+    (unmet c.args.text.now c.args.small.now c.requires.program (request_of c.args.q.now) c.args.target c.requires.target Assign c.in-Err-Assign.number (said-Assign c))
+    (c.unmet_at.ensures (said-Assign c).node (has-Assign c) (sym (said-Assign c).number_is))
+
+pub unmet_at-2-requires-clause-node : goal.unmet_at-2-requires-clause-node
+unmet_at-2-requires-clause-node c = ((said-Member c).node, has-Member c, sym (said-Member c).number_is)
 
 pub returns-in-Err-Member : goal.returns-in-Err-Member
 returns-in-Err-Member c =
-    let q = request_of c.args.q.now in
-    let text = c.args.text.now in
-    let r = subst (λ (p : Place). IsRefusedAt c.args.small.now.names text (unit_plain c.args.small.now.unit) c.args.small.now.declared.world p c.args.target c.in-Err-Member.number)
-    c.in-Some.ensures.some (c.generalize_small.ensures.member c.in-Err-Member.number (c.in-Err-Member.is ∙ ap Err c.in-Err-Member.field-0-is)) in
-    let has = has_call text c.args.small.now c.requires.program q c.args.target c.requires.target c.in-Err-Member.number r in
-    refused_by q text _ c.unmet_at.result (unmet text c.args.small.now c.requires.program q c.args.target c.requires.target c.in-Err-Member.number r) (c.unmet_at.ensures r.call has (sym r.number_is))
+    refused_by (request_of c.args.q.now) c.args.text.now _ c.unmet_at-2.result
+    (unmet c.args.text.now c.args.small.now c.requires.program (request_of c.args.q.now) c.args.target c.requires.target Member c.in-Err-Member.number (said-Member c))
+    (c.unmet_at-2.ensures (said-Member c).node (has-Member c) (sym (said-Member c).number_is))
 
 pub returns-in-Err-V-eq1 : goal.returns-in-Err-V-eq1
 returns-in-Err-V-eq1 c =

@@ -13,13 +13,13 @@ place_at-requires-clause-within c =
 
 pub unreachable-requires : goal.unreachable-requires
 unreachable-requires c =
-    let call = c.requires.call in
-    let is = c.call_start.ensures.only _ _ _ (given c.args.text.now c.args.small.now c.requires.program) call.0 call.1 call.2 in
+    let node = c.requires.node in
+    let is = c.start_of.ensures.only _ _ _ (given c.args.text.now c.args.small.now c.requires.program) node.0 node.1 node.2 in
     cc (is, c.in-None.is)
 
 pub returns : goal.returns
-returns c call has same =
-    let is = c.call_start.ensures.only _ _ _ (given c.args.text.now c.args.small.now c.requires.program) call has same in
-    let from : c.in-Some.from ≡ call.span.from = cc (is, c.in-Some.is) in
-    let at : c.place_at.result ≡ place_at c.args.text.now call.span.from = c.place_at.ensures ∙ ap (λ (n : ℕ). place_at c.args.text.now n) from in
-    subst (λ (p : Place). IfOk c.refused_there.result (IsLine (refused_at (codes "MEMBER") c.args.q.now.file.now p))) at c.refused_there.ensures
+returns c n has same =
+    let is = c.start_of.ensures.only _ _ _ (given c.args.text.now c.args.small.now c.requires.program) n has same in
+    let from : c.in-Some.from ≡ n.span.from = cc (is, c.in-Some.is) in
+    let at : c.place_at.result ≡ place_at c.args.text.now n.span.from = c.place_at.ensures ∙ ap (λ (k : ℕ). place_at c.args.text.now k) from in
+    subst (λ (p : Place). IfOk c.refused_there.result (IsLine (refused_at c.args.rule.now c.args.q.now.file.now p))) at c.refused_there.ensures

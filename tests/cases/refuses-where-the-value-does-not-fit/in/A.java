@@ -1,0 +1,11 @@
+class A { void m() { System.out.println("a"); } }
+class B extends A { void m() { System.out.println("b"); } }
+class Main {
+  public static void main(String[] args) {
+    B x = new B();
+    B y = new B();
+    A z = x;
+    y = x;
+    x.m();
+  }
+}
