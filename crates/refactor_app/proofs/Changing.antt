@@ -91,7 +91,7 @@ module _ (q : Request) (text : List ℕ) (p : Program) (w : World) (target : ℕ
       let to : tok.1.span.to ≡ e.to = ap (λ (x : Span). x.to) tok.4 ∙ sym plan.to in
       let below = subst (λ (w : World). IsBelow w plan.x.ty target) same plan.below in
       let met : (kind : CKind) (n : Node) → IsUnmet p.unit (world_of p.unit) plan.x target kind n → ⊥ =
-          subst (λ (w : World). (kind : CKind) (n : Node) → IsUnmet p.unit w plan.x target kind n → ⊥) same plan.met in
+      subst (λ (w : World). (kind : CKind) (n : Node) → IsUnmet p.unit w plan.x target kind n → ⊥) same plan.met in
       let all_met : AreMet p.unit (world_of p.unit) plan.x target = subst (λ (w : World). AreMet p.unit w plan.x target) same plan.all_met in
       let keeps = generalize_keeps p.names p.toks p.unit plan.x target c order spells small.checked.declarations small.checked.steps d plan.from plan.to named_is.2 below all_met in
       let same_span : plan.x.head ≡ record { from = c.from; to = c.to } = span_is plan.x.head e.from e.to plan.from plan.to in

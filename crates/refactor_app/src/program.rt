@@ -5,10 +5,10 @@ ghost use Rattle.refactor_app.specs.Small.{IsProgramOf, IsNoProgram, HasTokens, 
 
 use check_decl::check_small;
 use decl_table::{BuildFault, Declared, build_small};
-use small_lexer::{LexFault, Tok, lex};
-use small_parser::{SyntaxFault, parse_small};
 use java_tree::tree::SourceUnit;
 use java_tree::{Items, Names, NoMemory};
+use small_lexer::{LexFault, Tok, lex};
+use small_parser::{SyntaxFault, parse_small};
 use std::alloc::Global;
 
 /// A small program: its names, its tree and its declared types.

@@ -26,7 +26,7 @@ unmet_at-requires-clause-node c =
     let q = request_of c.args.q.now in
     let n = c.in-Err-Assign.number in
     let r = at_asked c.args.text.now c.args.small.now c.requires.program q c.args.target c.requires.target Assign n _ c.in-Some.ensures.some
-        (c.generalize_small.ensures.assign n (c.in-Err-Assign.is ∙ ap Err c.in-Err-Assign.field-0-is)) in
+    (c.generalize_small.ensures.assign n (c.in-Err-Assign.is ∙ ap Err c.in-Err-Assign.field-0-is)) in
     (r.node, constrained c.args.text.now c.args.small.now c.requires.program q c.args.target c.requires.target Assign n r, sym r.number_is)
 
 pub returns-in-Err-Assign : goal.returns-in-Err-Assign
@@ -34,7 +34,7 @@ returns-in-Err-Assign c =
     let q = request_of c.args.q.now in
     let n = c.in-Err-Assign.number in
     let r = at_asked c.args.text.now c.args.small.now c.requires.program q c.args.target c.requires.target Assign n _ c.in-Some.ensures.some
-        (c.generalize_small.ensures.assign n (c.in-Err-Assign.is ∙ ap Err c.in-Err-Assign.field-0-is)) in
+    (c.generalize_small.ensures.assign n (c.in-Err-Assign.is ∙ ap Err c.in-Err-Assign.field-0-is)) in
     let has = constrained c.args.text.now c.args.small.now c.requires.program q c.args.target c.requires.target Assign n r in
     refused_by q c.args.text.now _ c.unmet_at.result (unmet c.args.text.now c.args.small.now c.requires.program q c.args.target c.requires.target Assign n r)
     (c.unmet_at.ensures r.node has (sym r.number_is))
@@ -44,7 +44,7 @@ unmet_at-requires-in-Err-Member-clause-node c =
     let q = request_of c.args.q.now in
     let n = c.in-Err-Member.number in
     let r = at_asked c.args.text.now c.args.small.now c.requires.program q c.args.target c.requires.target Member n _ c.in-Some.ensures.some
-        (c.generalize_small.ensures.member n (c.in-Err-Member.is ∙ ap Err c.in-Err-Member.field-0-is)) in
+    (c.generalize_small.ensures.member n (c.in-Err-Member.is ∙ ap Err c.in-Err-Member.field-0-is)) in
     (r.node, constrained c.args.text.now c.args.small.now c.requires.program q c.args.target c.requires.target Member n r, sym r.number_is)
 
 pub returns-in-Err-Member : goal.returns-in-Err-Member
@@ -52,7 +52,7 @@ returns-in-Err-Member c =
     let q = request_of c.args.q.now in
     let n = c.in-Err-Member.number in
     let r = at_asked c.args.text.now c.args.small.now c.requires.program q c.args.target c.requires.target Member n _ c.in-Some.ensures.some
-        (c.generalize_small.ensures.member n (c.in-Err-Member.is ∙ ap Err c.in-Err-Member.field-0-is)) in
+    (c.generalize_small.ensures.member n (c.in-Err-Member.is ∙ ap Err c.in-Err-Member.field-0-is)) in
     let has = constrained c.args.text.now c.args.small.now c.requires.program q c.args.target c.requires.target Member n r in
     refused_by q c.args.text.now _ c.unmet_at-in-Err-Member.result (unmet c.args.text.now c.args.small.now c.requires.program q c.args.target c.requires.target Member n r)
     (c.unmet_at-in-Err-Member.ensures r.node has (sym r.number_is))
