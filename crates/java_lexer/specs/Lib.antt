@@ -1,0 +1,9 @@
+pub mod Bytes
+pub mod Forms
+pub mod Pieces
+pub mod Faults
+pub mod Encoding
+pub mod Lexing
+pub mod Values
+pub mod Scan
+pub mod Splice
