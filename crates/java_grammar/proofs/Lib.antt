@@ -1,0 +1,4 @@
+pub mod Carrying
+pub mod Extents
+pub mod Lexed
+pub mod Reading

@@ -1,0 +1,6 @@
+pub mod Sorts
+pub mod Reads
+pub mod Heights
+pub mod Expressions
+pub mod Statements
+pub mod Carried
