@@ -1,0 +1,13 @@
+pub mod TokLemmas
+pub mod Turns
+pub mod Steps
+pub mod TypesSound
+pub mod TypesComplete
+pub mod Scans
+pub mod Operators
+pub mod Sound
+pub mod Answered
+pub mod Follows
+pub mod Past
+pub mod Casts
+pub mod Complete

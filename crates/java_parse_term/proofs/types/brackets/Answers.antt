@@ -1,0 +1,11 @@
+use Rattle.std.proofs.Common.{rules, arith, length}
+use Rattle.std.proofs.lemmas.Grind.{common_steps}
+use Rattle.java_parse_term.specs.Types.{brackets}
+use Rattle.java_parse_term.proofs.Turns.{one_more}
+use Rattle.java_parse_term.proofs.types.brackets.Goals as goal
+
+pub loop-turn-preserved : goal.loop-turn-preserved
+unfolding brackets
+loop-turn-preserved c =
+    let e = one_more (λ n. brackets c.args.toks.now n c.loop-turn.dims c.loop-turn.here) (length c.args.toks.now) c.loop-turn._turn (omega arith) c.loop-turn.invariant.same in
+    first_of (search rules, grind (arith, common_steps))
