@@ -1,5 +1,5 @@
 -- What is an expression is read.
-use Rattle.std.proofs.Common.{◌≡◌, ◌≢◌, ℕ, zero, suc, ◌+◌, ◌-◌, ◌<◌, ◌≤◌, max, min, Bool, true, false, ◌&&◌, ◌||◌, cond, List, [], ◌∷◌, ◌++◌, length, Option, Some, None, refl, sym, ap, ◌∙◌, arith, nat_lt, append_assoc, append-nil, ◌⊎◌, inl, inr}
+use Rattle.std.proofs.Common.{◌≡◌, ◌≢◌, ℕ, zero, suc, ◌+◌, ◌-◌, ◌<◌, ◌≤◌, max, min, Bool, true, false, ◌||◌, cond, List, [], ◌∷◌, ◌++◌, length, Option, Some, None, refl, sym, ap, ◌∙◌, arith, nat_lt, append_assoc, append-nil, ◌⊎◌, inl, inr}
 use Rattle.std.proofs.lemmas.Bool.Decides.{nat_tests}
 use Rattle.java_tree.specs.declared.tree.Name.{Name}
 use Rattle.java_tree.specs.declared.tree.Node.{Node}
@@ -20,7 +20,7 @@ use Rattle.java_grammar.specs.Expressions.{level_of, prefix_sort, IsVariable, Is
 use Rattle.java_parse_term.specs.declared.signs.Standing.{Standing}
 use Rattle.java_parse_term.specs.declared.terms.Row.{Row}
 use Rattle.java_parse_term.specs.declared.terms.Row.TheVariants as r
-use Rattle.java_parse_term.specs.Marks.{is_mark, after_mark}
+use Rattle.java_parse_term.specs.Marks.{◌>>=◌, is_mark, after_mark}
 use Rattle.java_parse_term.specs.Signs.{standing, prefix_of, step_of, is_begin, infix_at, assign_at, level_at}
 use Rattle.java_parse_term.specs.Types.{Read, is_primitive, pair_end}
 use Rattle.java_parse_term.specs.Parse.{is_variable, is_creation, is_items, level_in_row, is_cast, may_be_cast, row_end, asks, assigns, opens, opens_size, is_link, member, more, all_in, number, call, named, super_call, super_member, paren, new_object, new_filled, size, more_sizes, sizes, new_array, creation, operand, call_on, field_of, selected, index, link, chain, primary, stepped, postfix, signed, stepping, cast_to, cast, unary, joined, asked, tied, climb, chosen_else, chosen, conditional, assigned, expression, items, level, parse, expr_read}
@@ -743,10 +743,10 @@ module _ (text : List ℕ) (ts : List Tok) where
 
     assigns_none : (k : ℕ) (left : Read Expr) → assign_at ts left.next ≡ None → assigns text ts k left ≡ None
     unfolding assigns
-    assigns_none k left none = by_test (nat_lt 13 k && is_variable left.tree)
+    assigns_none k left none = by_test (nat_lt 13 k)
       where
-        by_test : (b : Bool) → cond b (assign_at ts left.next) None ≡ None
-        by_test true = none
+        by_test : (b : Bool) → cond b (assign_at ts left.next >>= (λ x. cond (is_variable left.tree) (Some x) None)) None ≡ None
+        by_test true = rw none refl
         by_test false = refl
 
     assigns_tight : (k : ℕ) (left : Read Expr) → k ≤ 13 → assigns text ts k left ≡ None
@@ -830,7 +830,7 @@ module _ (text : List ℕ) (ts : List Tok) where
     unfolding assigns
     assigns_has k e a y loose variable found =
         let test : nat_lt 13 k ≡ true = grind (arith, nat_tests) in
-        rw (test, is_variable_has e variable, found) refl
+        rw (test, found, is_variable_has e variable) refl
 
     assign_again : (k : ℕ) (n : Node) (x : Option BinOp) (a b : Expr) (i c d j : ℕ) → 14 ≤ k → expr_depth a < limit → expr_depth b < limit → n ≡ node_of text ts i j → IsVariable a → unary text ts limit below i ≡ got a c
         → assign_at ts c ≡ Some (standing x d) → Spells text ts 14 b d j → 14 < loose_at ts j → expression text ts limit below k i ≡ got (t.Assign n x a b) j

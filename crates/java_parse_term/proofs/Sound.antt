@@ -1,5 +1,5 @@
 -- What is read as an expression is one.
-use Rattle.std.proofs.Common.{◌≡◌, ◌≢◌, ℕ, zero, suc, ◌+◌, ◌-◌, ◌<◌, ◌≤◌, max, min, Bool, true, false, not, ◌&&◌, cond, List, [], ◌∷◌, ◌++◌, length, Option, Some, None, refl, sym, ap, subst, ◌∙◌, arith, nat_lt, append_assoc, append-nil, inl, inr}
+use Rattle.std.proofs.Common.{◌≡◌, ◌≢◌, ℕ, zero, suc, ◌+◌, ◌-◌, ◌<◌, ◌≤◌, max, min, Bool, true, false, not, cond, List, [], ◌∷◌, ◌++◌, length, Option, Some, None, refl, sym, ap, subst, ◌∙◌, arith, nat_lt, append_assoc, append-nil, inl, inr}
 use Rattle.std.proofs.lemmas.Bool.Decides.{nat_tests}
 use Rattle.java_tree.specs.declared.tree.UnOp.{UnOp}
 use Rattle.java_tree.specs.declared.tree.BinOp.{BinOp}
@@ -637,8 +637,11 @@ module _ (text : List ℕ) (ts : List Tok) where
     assigns_says : (k : ℕ) (left : Read Expr) (x : Standing (Option BinOp)) → assigns text ts k left ≡ Some x → (14 ≤ k) × IsVariable left.tree × (assign_at ts left.next ≡ Some x)
     unfolding assigns
     assigns_says k left x e =
-        step_if (nat_lt 13 k && is_variable left.tree) _ x e (λ both e1.
-        both_true (nat_lt 13 k) (is_variable left.tree) both (λ loose variable. (grind (arith, nat_tests), is_variable_says left.tree variable, e1)))
+        step_if (nat_lt 13 k) _ x e (λ loose e1.
+        step (assign_at ts left.next) _ x e1 (λ y found e2.
+        step_if (is_variable left.tree) _ x e2 (λ variable e3.
+        let same : y ≡ x = cc in
+        (grind (arith, nat_tests), is_variable_says left.tree variable, found ∙ ap Some same))))
 
     assigned_fine : (k i : ℕ) (left g : Read Expr) (x : Standing (Option BinOp)) → Good limit 2 i left → assigns text ts k left ≡ Some x → assigned text ts limit below i left x ≡ Some g → Good limit k i g
     unfolding assigned

@@ -85,7 +85,7 @@ module _ (text : List ℕ) (ts : List Tok) where
 
   -- the assignment behind what was read
   unfoldable pub assigns : ℕ → Read Expr → Option (Standing (Option BinOp))
-  assigns k left = if nat_lt 13 k && is_variable left.tree then assign_at ts left.next else None
+  assigns k left = if nat_lt 13 k then (assign_at ts left.next >>= (λ x. if is_variable left.tree then Some x else None)) else None
 
   -- where items begin
   unfoldable pub opens : ℕ → ℕ → Option ℕ

@@ -987,8 +987,12 @@ impl<
     fn assigns(&self, level: u8, left: &Parsed<Boxed<Expr>>) -> Option<Standing<Option<BinOp>>>
         ensures { result ≡ spec.assigns self.now.text.now self.now.toks.now level (seen plain left.now) }
     {
-        if level > 13 && is_variable(left.tree.get()) {
-            assign_at(self.toks, left.next)
+        if level <= 13 {
+            return None;
+        }
+        let found = assign_at(self.toks, left.next)?;
+        if is_variable(left.tree.get()) {
+            Some(found)
         } else {
             None
         }
