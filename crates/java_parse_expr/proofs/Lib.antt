@@ -1,0 +1,10 @@
+pub mod Past
+pub mod Turns
+pub mod Forms
+pub mod Begins
+pub mod Declared
+pub mod Lists
+pub mod Sound
+pub mod Complete
+pub mod Within
+pub mod Answered

@@ -1,0 +1,18 @@
+use Rattle.java_tree.specs.View.{stmt_plain}
+use Rattle.java_parse_expr.proofs.Answered.{stmt_found, stmt_found_one, stmt_fault}
+use Rattle.java_parse_expr.proofs.read.parse_stmt.Goals as goal
+
+pub returns-in-Ok-clause-found : goal.returns-in-Ok-clause-found
+returns-in-Ok-clause-found c =
+    stmt_found c.args.text.now c.toks.new.names c.args.tokens.now c.args.at c.args.depth c.args.first c.in_ok-toks.toks c.as_slice.result.now c.as_slice.ensures c.in_ok-toks.ensures.toks c.in_ok-toks.ensures.one
+    (stmt_plain c.in-Ok.found.tree) c.in-Ok.found.next c.in-Ok.ensures.found (stmt_plain c.numbered_stmt.result.0) c.numbered_stmt.result.1 c.numbered_stmt.ensures.tree c.numbered_stmt.ensures.next
+
+pub returns-in-Ok-clause-only : goal.returns-in-Ok-clause-only
+returns-in-Ok-clause-only c =
+    stmt_found_one c.args.text.now c.toks.new.names c.args.tokens.now c.args.at c.args.depth c.args.first c.in_ok-toks.toks c.as_slice.result.now c.as_slice.ensures c.in_ok-toks.ensures.toks c.in_ok-toks.ensures.one
+    (stmt_plain c.in-Ok.found.tree) c.in-Ok.found.next c.in-Ok.ensures.only (stmt_plain c.numbered_stmt.result.0) c.numbered_stmt.result.1 c.numbered_stmt.ensures.tree c.numbered_stmt.ensures.next
+
+pub returns-clause-only : goal.returns-clause-only
+returns-clause-only c =
+    stmt_fault c.args.text.now c.toks.new.names c.args.tokens.now c.args.at c.args.depth c.args.first c.in_ok-toks.toks c.as_slice.result.now c.as_slice.ensures c.in_ok-toks.ensures.toks c.in_ok-toks.ensures.one
+    c.in-Err.fault c.in-Err.ensures.only

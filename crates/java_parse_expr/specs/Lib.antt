@@ -1,0 +1,4 @@
+pub mod Parse
+pub mod Seen
+pub mod Nests
+pub mod Found
