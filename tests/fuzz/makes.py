@@ -1,12 +1,17 @@
 """The maker of cases: random small programs with random words, mostly right ones, and many that are damaged.
 
-A case is made in four steps. A program is made up as classes and steps; it is spoiled or not; it is laid out as a
+Besides there are random command lines, several files, and random whole files (lines.py, grows.py).
+
+A case of a small program is made in four steps. A program is made up as classes and steps; it is spoiled or not; it is laid out as a
 text, which is damaged or not; and words are aimed at it, which are damaged or not. What the right answer is, the
 maker need not know.
 """
 import re
 from dataclasses import dataclass, field
 from typing import NamedTuple
+
+import grows
+import lines
 
 
 class Case(NamedTuple):
@@ -22,7 +27,8 @@ def make_case(chance):
     """One case, from a source of chance alone."""
     way = pick(chance, [
         (46, right_case), (20, spoiled_case), (7, token_case), (8, byte_case), (1.5, junk_case), (12, words_case),
-        (5, folder_case), (1, full_case), (0.5, large_case),
+        (5, folder_case), (1, full_case), (0.5, large_case), (25, line_case), (14, files_case), (30, whole_case),
+        (0.3, many_files_case), (0.2, much_case),
     ])
     return way(chance)
 
@@ -95,6 +101,84 @@ def large_case(chance):
     make = pick(chance, LARGE)
     words, text = make(chance)
     return simple_case(chance, words, text, "large file: " + make.__name__)
+
+
+def line_case(chance):
+    """Any command line. Most of its files are there."""
+    line = lines.random_line(chance)
+    files = {name: any_text(chance) for name in line.inputs() if is_fine(name) and chance.random() < 0.95}
+    return Case([encode(word) for word in line.words()], apart(files), [], False, "command line")
+
+
+def files_case(chance):
+    """`generalize` on several files, user files and library files, some of which are not there or no files."""
+    line = lines.right_line(chance, "generalize")
+    files, folders = {}, []
+    bad = chance.choice([0, 0, 0.2])
+    for name in line.inputs():
+        way = chance.random()
+        if way >= bad:
+            files[name] = any_text(chance, chance.choice([0.05, 0.3]))
+        elif way < bad / 4:
+            folders.append(name)
+    files = apart(files)
+    folders = [name for name in folders if not any(name == each or each.startswith(name + "/") or name.startswith(each + "/")
+                                                   for each in files)]
+    return Case([encode(word) for word in line.words()], files, folders, False, "several files")
+
+
+def whole_case(chance):
+    """One random whole file: by the grammar, damaged, or about as deep as it may be."""
+    text = any_text(chance, 0.5) if chance.random() < 0.85 else grows.lay_out(chance, grows.deep_pieces(chance))
+    words = Words(odd_part(chance, "out"), odd_part(chance), str(chance.randint(1, 9)), str(chance.randint(1, 9)),
+                  chance.choice(["A", "B", "Object"]))
+    return simple_case(chance, words, text, "whole file")
+
+
+def many_files_case(chance):
+    """About the most files."""
+    names = ["F%d.java" % n for n in range(chance.choice([255, 256, 256, 257, 257, 300]))]
+    files = {name: b"class F%d { }" % n for n, name in enumerate(names)}
+    if chance.random() < 0.3:
+        del files[chance.choice(names)]
+    cut = chance.randint(1, len(names))
+    words = ["generalize", "out", names[0], "1", "1", "Object", "--", *names[:cut], *(["+", *names[cut:]] if cut < len(names) else [])]
+    return Case([encode(word) for word in words], files, [], False, "many files")
+
+
+def much_case(chance):
+    """Files of about the most bytes, one by one or in all."""
+    most = 1_048_576
+    sizes = chance.choice([[most, most, most, most], [most, most, most, most, 1], [most, most, most, most - 1, 1], [most + 1],
+                           [5, most + 1], [most, most, most, most, 0], [most, most, most, most - 1, 2], [most, most, most, most, most + 1]])
+    files = {"F%d.java" % n: b" " * size for n, size in enumerate(sizes)}
+    if chance.random() < 0.3:
+        files.pop("F%d.java" % chance.randrange(len(sizes)))
+    words = ["generalize", "out", "F0.java", "1", "1", "Object", "--"] + ["F%d.java" % n for n in range(len(sizes))]
+    return Case([encode(word) for word in words], files, [], False, "many bytes")
+
+
+def any_text(chance, damaged=0.1):
+    """The text of some file: of a small program, of a whole file, damaged or not, or none."""
+    way = chance.random()
+    if way < damaged:
+        pieces = grows.unit_pieces(chance, chance.choice([5, 20, 40, 80, 150]))
+        return grows.lay_out(chance, grows.damaged(chance, pieces))
+    if way < damaged + 0.05:
+        return pick(chance, JUNK)(chance)
+    if way < damaged + (1 - damaged) / 3:
+        return lay_out(chance, tokens_of(make_program(chance)))[0]
+    return grows.lay_out(chance, grows.unit_pieces(chance))
+
+
+def is_fine(name):
+    """Whether a file can have the name."""
+    return all(re.fullmatch(r"[A-Za-z0-9_$.+-]{1,255}", part) and part not in (".", "..") for part in name.split("/"))
+
+
+def apart(files):
+    """The files but for those whose folder would be another file."""
+    return {name: data for name, data in files.items() if not any(name.startswith(other + "/") for other in files)}
 
 
 def simple_case(chance, words, text, kind):
@@ -378,7 +462,8 @@ def odd_part(chance, usual="A.java"):
     if chance.random() < 0.9:
         return usual
     return chance.choice(["a", "-", "---", "...", "..a", "a..", "$", "_", "0", "A.java.java", "A-1_$.x", "-x",
-                          "--help", "A", "out", ".java", "x" * 200, "generalize"])
+                          "--help", "A", "out", ".java", "x" * 200, "generalize", "src/A.java", "a/b/c/d.java", "x/y",
+                          "src/A", "x/-"])
 
 
 def aimed_type(chance, program, place_type):

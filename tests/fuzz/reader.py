@@ -1,26 +1,28 @@
 """The plain reader: what jgen has to answer to given words and files.
 
 The rules are read one by one, in the order in which their refusals come, and nothing is shared with the program
-under test. Words become a request, bytes become tokens, tokens become a small program; then come the refusals of
-the command, the edit and the report.
+under test. Words become a request, files become texts, texts become tokens and trees, and the one file of a small
+program becomes that program; then come the refusals of the command, the edit and the report.
 """
 import bisect
 import re
 from typing import NamedTuple, Optional, Union
 
+import lexing
+import trees
+
+MOST_FILES = 256
 MOST_BYTES = 1_048_576
+MOST_BYTES_OF_ALL = 4_194_304
+MOST_TOKENS = 1_048_576
 MOST_TYPES = 4_096
 MOST_METHODS = 65_536
 LONGEST_FILE_NAME = 255
+LONGEST_PATH = 4_095
 
-DONE, REFUSED, MISSING, READ_FAULT, WRITE_FAULT, OUT_FAULT, NO_WORDS = 0, 1, 3, 4, 5, 6, 8
+DONE, REFUSED, USAGE, MISSING, READ_FAULT, WRITE_FAULT, OUT_FAULT, NO_WORDS = 0, 1, 2, 3, 4, 5, 6, 8
 
-RESERVED = frozenset("""
-    abstract assert boolean break byte case catch char class const continue default do double else enum extends
-    final finally float for goto if implements import instanceof int interface long native new package private
-    protected public return short static strictfp super switch synchronized this throw throws transient try void
-    volatile while true false null
-    """.split())
+RESERVED = lexing.KEYWORDS
 
 BUILT_IN_TYPES = frozenset("""
     Object String System PrintStream Throwable Exception Error RuntimeException ArithmeticException
@@ -39,12 +41,17 @@ OBJECT_METHODS = frozenset("toString hashCode".split())
 
 
 class Answer(NamedTuple):
-    """What the program has to do: its exit status, the bytes it prints, and the files it writes."""
+    """What the program has to do: its exit status, the bytes it prints, and the files it writes.
+
+    `others` are further reports that are right too: the place of G1 is free. A report that is None is not compared, and
+    neither is a status that is None.
+    """
     kind: str
-    status: int
-    report: bytes
+    status: Optional[int]
+    report: Optional[bytes]
     writes: dict
     why: str = ""
+    others: frozenset = frozenset()
 
 
 def answer(words, files, folders):
@@ -53,37 +60,54 @@ def answer(words, files, folders):
         words = [word.decode("utf-8") for word in words]
     except UnicodeDecodeError:
         return Answer("no words", NO_WORDS, b"", {}, "a word is not UTF-8")
-    request = read_words(words)
-    if request is None:
-        return refused("N1", "-", "not the eight words")
-    if request.file in folders or len(request.file) > LONGEST_FILE_NAME:
-        return Answer("read fault", READ_FAULT, b"read fault %s\n" % request.file.encode(), {})
-    if request.file not in files:
-        return Answer("missing", MISSING, b"missing %s\n" % request.file.encode(), {})
-    text = files[request.file]
+    if words in (["--help"], ["--version"]):
+        return Answer("help", DONE, None, {})
+    rule = broken_word_rule(words)
+    if rule is not None:
+        return Answer("U%d" % rule, USAGE, b"usage U%d\n" % rule, {})
+    if words[0] != "generalize":
+        return refused("N1", "-", "another command")
+    request = read_request(words)
+    disk = Disk(files, folders)
     try:
-        program = read_program(text)
+        texts = read_files(request, disk)
+        count = 0
+        for name, text in zip(request.inputs, texts):
+            count += tokens_in_file(name, text, count)
+    except Stopped as stop:
+        return stop.answer
+    try:
+        require(len(request.inputs) == 1, "not the one file")
+        program = read_program(texts[0])
         require_target(program, request.target)
     except NotSmall as reason:
         return refused("N2", "-", str(reason))
+    text = texts[0]
     refusal = first_refusal(program, text, request)
     if refusal is not None:
         rule, node = refusal
-        place = "-" if node is None else "%s:%d:%d" % (request.file, *Lines(text).place(node))
+        place = "-" if node is None else place_of(request.file, text, node)
         return refused(rule, place)
     written = "%s/%s" % (request.out, request.file)
-    if not can_write(request.out, written, files, folders):
+    if not disk.can_write(written):
         return Answer("write fault", WRITE_FAULT, b"write fault %s\n" % written.encode(), {})
     return done(program, text, request, written)
+
+
+class Stopped(Exception):
+    """The answer that comes before any small program is read."""
+
+    def __init__(self, answer):
+        super().__init__()
+        self.answer = answer
 
 
 def refused(rule, place, why=""):
     return Answer(rule, REFUSED, b"refused %s %s\n" % (rule.encode(), place.encode()), {}, why)
 
 
-def can_write(out, written, files, folders):
-    """Whether a real folder takes the new file: OUT is no file, the new file is no folder, no name is too long."""
-    return out not in files and written not in folders and len(out) <= LONGEST_FILE_NAME
+def place_of(file, text, at):
+    return "%s:%d:%d" % (file, *Lines(text).place(at))
 
 
 def done(program, text, request, written):
@@ -94,25 +118,120 @@ def done(program, text, request, written):
     return Answer("done", DONE, edit + b"done 1 edits\n", {written: text[:begin] + new + text[end:]})
 
 
-# The words.
+# The words: the table of commands, and the rules U1 to U8.
+
+# the own words of each command, and what each further one is; `run` has `=` before its further ones
+OWN_WORDS = {
+    "check": ([], None),
+    "run": (["N", "CLASS"], "argument"),
+    "allowed": (["FILE", "LINE", "COL"], None),
+    "generalize": (["OUT", "FILE", "LINE", "COL", "TYPE"], None),
+    "extract-interface": (["OUT", "CLASS", "NEWNAME", "METHOD"], "METHOD"),
+    "pull-up": (["OUT", "CLASS", "SUPER", "MEMBER"], "MEMBER"),
+    "infer-type-arguments": (["OUT"], None),
+    "workload": (["K"], None),
+}
+
+
+class Command(NamedTuple):
+    """A command line in its parts. `own` pairs what a word is with the word."""
+    name: str
+    own: list
+    has_dashes: bool
+    users: list
+    libs: list
+
+    def called(self, *names):
+        return [word for name, word in self.own if name in names]
+
+
+def read_command(words):
+    name, rest = words[0], words[1:]
+    own, has_dashes, files = cut(rest, "--")
+    users, _, libs = cut(files, "+")
+    first, more = OWN_WORDS[name]
+    return Command(name, [(first[n] if n < len(first) else more, word) for n, word in enumerate(own)], has_dashes,
+                   users, libs)
+
+
+def cut(words, mark):
+    """The words before the first `mark`, whether there is one, and the words behind it."""
+    if mark not in words:
+        return words, False, []
+    at = words.index(mark)
+    return words[:at], True, words[at + 1:]
+
+
+def broken_word_rule(words):
+    """The lowest of U1 to U8 that the words break, or None."""
+    if not words or words[0] not in OWN_WORDS:
+        return 1
+    command = read_command(words)
+    rules = [has_shape, has_numbers, has_users, has_paths, keeps_inputs, has_identifiers, names_places]
+    return next((at + 2 for at, rule in enumerate(rules) if not rule(command)), None)
+
+
+def has_shape(command):
+    first, more = OWN_WORDS[command.name]
+    count = len(command.own)
+    if count < len(first) or (count > len(first) and more is None):
+        return False
+    if command.name == "run" and count > 2 and command.own[2][1] != "=":
+        return False
+    return command.has_dashes == (command.name != "workload")
+
+
+def has_numbers(command):
+    return (all(is_number(word, 0) for word in command.called("N"))
+            and all(is_number(word, 1) for word in command.called("LINE", "COL", "K")))
+
+
+def has_users(command):
+    return command.name == "workload" or command.users != []
+
+
+def has_paths(command):
+    files = command.users + command.libs
+    return all(is_path(word) for word in command.called("OUT") + files) and len(set(files)) == len(files)
+
+
+def keeps_inputs(command):
+    inputs = set(command.users + command.libs)
+    outputs = [out + "/" + file for out in command.called("OUT") for file in command.users]
+    for out in command.called("OUT"):
+        for new in command.called("NEWNAME"):
+            outputs += ["/".join([out] + file.split("/")[:-1] + [new + ".java"]) for file in command.users]
+    return not any(name in inputs for name in outputs)
+
+
+def has_identifiers(command):
+    return all(is_identifier(word) for word in command.called("CLASS", "SUPER", "TYPE", "NEWNAME", "METHOD", "MEMBER"))
+
+
+def names_places(command):
+    members = command.called("METHOD", "MEMBER")
+    return all(word in command.users for word in command.called("FILE")) and len(set(members)) == len(members)
+
 
 class Request(NamedTuple):
-    """What the eight words ask for."""
+    """What the words of `generalize` ask for."""
     out: str
     file: str
     line: int
     column: int
     target: str
+    inputs: list
 
 
-def read_words(words):
-    """The request of `generalize OUT FILE LINE COL TYPE -- FILE`, or None."""
-    if len(words) != 8:
-        return None
-    command, out, file, line, column, target, dashes, again = words
-    right = (command == "generalize" and is_part(out) and is_part(file) and is_number(line) and is_number(column)
-             and is_identifier(target) and dashes == "--" and again == file)
-    return Request(out, file, int(line), int(column), target) if right else None
+def read_request(words):
+    command = read_command(words)
+    out, file, line, column, target = [word for _, word in command.own]
+    return Request(out, file, int(line), int(column), target, command.users + command.libs)
+
+
+def is_path(word):
+    """Parts, one or more, joined by single slashes."""
+    return all(is_part(part) for part in word.split("/"))
 
 
 def is_part(word):
@@ -120,13 +239,98 @@ def is_part(word):
     return re.fullmatch(r"[A-Za-z0-9_$.-]+", word) is not None and word not in (".", "..")
 
 
-def is_number(word):
-    """A line or a column: 1 to 10 digits without a leading zero, and not zero itself."""
-    return re.fullmatch(r"[1-9][0-9]{0,9}", word) is not None
+def is_number(word, least):
+    """A number of 1 to 10 digits without a leading zero."""
+    return re.fullmatch(r"0|[1-9][0-9]{0,9}", word) is not None and int(word) >= least
 
 
 def is_identifier(word):
     return re.fullmatch(r"[A-Za-z_$][A-Za-z0-9_$]*", word) is not None and word not in RESERVED
+
+
+# The files.
+
+class Disk:
+    """A folder with files and folders, by their names."""
+
+    def __init__(self, files, folders):
+        self.files = files
+        self.folders = set()
+        for name in folders:
+            self.folders |= {name} | above(name)
+        for name in files:
+            self.folders |= above(name)
+
+    def read(self, name):
+        """The bytes of a file, `missing` or `fault`."""
+        if len(name) > LONGEST_PATH:
+            return "fault"
+        parts = name.split("/")
+        for n, part in enumerate(parts[:-1]):
+            if len(part) > LONGEST_FILE_NAME:
+                return "fault"
+            if "/".join(parts[:n + 1]) not in self.folders:
+                # a file where a folder has to stand: the requirements leave open which of the two it is
+                return "either" if "/".join(parts[:n + 1]) in self.files else "missing"
+        if len(parts[-1]) > LONGEST_FILE_NAME or name in self.folders:
+            return "fault"
+        return self.files.get(name, "missing")
+
+    def can_write(self, name):
+        """No folder of the name is a file, the name is no folder, and no part of it is too long."""
+        return (len(name) <= LONGEST_PATH and all(len(part) <= LONGEST_FILE_NAME for part in name.split("/"))
+                and name not in self.folders and not any(folder in self.files for folder in above(name)))
+
+
+def above(name):
+    """The folders that hold a name."""
+    parts = name.split("/")
+    return {"/".join(parts[:n]) for n in range(1, len(parts))}
+
+
+def read_files(request, disk):
+    """L1; then for each file its reading, L2 and L3."""
+    if len(request.inputs) > MOST_FILES:
+        raise Stopped(refused("L1", "-"))
+    texts, size = [], 0
+    for name in request.inputs:
+        found = disk.read(name)
+        if found in ("missing", "fault", "either"):
+            raise Stopped(unread(name, found))
+        if len(found) > MOST_BYTES:
+            raise Stopped(refused("L2", "-", name))
+        size += len(found)
+        if size > MOST_BYTES_OF_ALL:
+            raise Stopped(refused("L3", "-", name))
+        texts.append(found)
+    return texts
+
+
+def unread(name, found):
+    if found == "missing":
+        return Answer("missing", MISSING, b"missing %s\n" % name.encode(), {})
+    if found == "either":
+        return Answer("missing or read fault", None, None, {}, "a file stands where a folder has to")
+    return Answer("read fault", READ_FAULT, b"read fault %s\n" % name.encode(), {})
+
+
+def tokens_in_file(name, text, count):
+    """X; then L4, with so many tokens in the files before this one; then S1 to S9; then G1."""
+    try:
+        tokens = lexing.read_tokens(text)
+        if count + len(tokens) > MOST_TOKENS:
+            raise Stopped(refused("L4", "-", name))
+        lexing.require_nothing_left_out(tokens)
+    except lexing.Broken as broken:
+        raise Stopped(refused(broken.rule, place_of(name, text, broken.at))) from None
+    try:
+        trees.require_tree(tokens)
+    except trees.NoTree as reason:
+        lines = Lines(text)
+        places = {token.at for token in tokens} | {len(text)}
+        reports = [b"refused G1 %s:%d:%d\n" % (name.encode(), *lines.place(at)) for at in places]
+        raise Stopped(Answer("G1", REFUSED, reports[0], {}, str(reason), frozenset(reports))) from None
+    return len(tokens)
 
 
 # Lines and columns.
@@ -166,8 +370,6 @@ TOKEN = re.compile(r"""
 
 def read_tokens(text):
     """The tokens of a small program. Longer operators need no care: none of these marks is ever doubled there."""
-    if len(text) > MOST_BYTES:
-        raise NotSmall("too many bytes")
     try:
         text = text.decode("ascii")
     except UnicodeDecodeError:

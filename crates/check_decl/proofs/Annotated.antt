@@ -3,9 +3,9 @@ use Rattle.std.proofs.Common.{◌≡◌, ℕ, ◌+◌, ◌==◌, ◌<◌, ◌≤
 use Rattle.std.proofs.lemmas.Bool.Decides.{nat_tests}
 use Rattle.java_tree.specs.Plain as t
 use Rattle.java_tree.specs.Plain.{Expr, Stmt, Stmts, SourceUnit}
-use Rattle.small_lexer.specs.declared.token.Tok.{Tok}
-use Rattle.small_parser.specs.Nodes.{expr_nodes, stmt_nodes}
-use Rattle.small_parser.specs.Grammar.{AreSteps, IsStep, IsValue}
+use Rattle.java_grammar.specs.declared.token.Tok.{Tok}
+use Rattle.small_programs.specs.Nodes.{expr_nodes, stmt_nodes}
+use Rattle.small_programs.specs.Grammar.{AreSteps, IsStep, IsValue}
 use Rattle.class_world.specs.declared.world.World.{World}
 use Rattle.class_world.specs.declared.world.JavaType.{JavaType}
 use Rattle.class_world.specs.declared.world.JavaType.TheVariants as ty
@@ -72,7 +72,7 @@ free n x = Unit {0}
 abbrev pub unused : ℕ → Use → Type 0
 unused n x = Unit {0}
 
-module _ (names : List (List ℕ)) (ts : List Tok) (u : SourceUnit) (w : World) where
+module _ (names : List (List ℕ)) (text : List ℕ) (ts : List Tok) (u : SourceUnit) (w : World) where
   abbrev pub Says : Annotation → List Local → Stmt → Type 0
   Says a = IsStmtTyped (Typed a) (Used a) u w
 
@@ -85,10 +85,10 @@ module _ (names : List (List ℕ)) (ts : List Tok) (u : SourceUnit) (w : World) 
   abbrev Free : List Local → Stmt → Type 0
   Free = IsStmtTyped free unused u w
 
-  value_kept : (e : Expr) (n i j c : ℕ) (ls : List Local) (a b : Annotation) → IsValue names ts n e i j → Keeps n a b → Gives a ls e c → Gives b ls e c
+  value_kept : (e : Expr) (n i j c : ℕ) (ls : List Local) (a b : Annotation) → IsValue names text ts n e i j → Keeps n a b → Gives a ls e c → Gives b ls e c
   value_kept e n i j c ls a b (inl (stand, is, next)) k h =
-      let s = new_says (Typed a) (Used a) u w ls names ts n i c (subst (λ e. Gives a ls e c) is h) in
-      subst (λ e. Gives b ls e c) (sym is) (says_new (Typed b) (Used b) u w ls names ts n i c (record {
+      let s = new_says (Typed a) (Used a) u w ls names text ts n i c (subst (λ e. Gives a ls e c) is h) in
+      subst (λ e. Gives b ls e c) (sym is) (says_new (Typed b) (Used b) u w ls names text ts n i c (record {
         class_is = s.class_is;
         has = k.types n (omega arith) ∙ s.has;
         constructor = s.constructor;
@@ -96,8 +96,8 @@ module _ (names : List (List ℕ)) (ts : List Tok) (u : SourceUnit) (w : World) 
         uses = k.uses n (omega arith) ∙ s.uses;
       }))
   value_kept e n i j c ls a b (inr (stand, is, next)) k h =
-      let s = name_says (Typed a) (Used a) u w ls names ts n i c (subst (λ e. Gives a ls e c) is h) in
-      subst (λ e. Gives b ls e c) (sym is) (says_name (Typed b) (Used b) u w ls names ts n i c (record {
+      let s = name_says (Typed a) (Used a) u w ls names text ts n i c (subst (λ e. Gives a ls e c) is h) in
+      subst (λ e. Gives b ls e c) (sym is) (says_name (Typed b) (Used b) u w ls names text ts n i c (record {
         local = s.local;
         found = s.found;
         same = s.same;
@@ -105,10 +105,10 @@ module _ (names : List (List ℕ)) (ts : List Tok) (u : SourceUnit) (w : World) 
         uses = k.uses n (omega arith) ∙ s.uses;
       }))
 
-  one_kept : (x : Stmt) (n i j : ℕ) (ls : List Local) (a b : Annotation) → IsStep names ts n x i j → Keeps n a b → Says a ls x → Says b ls x
+  one_kept : (x : Stmt) (n i j : ℕ) (ls : List Local) (a b : Annotation) → IsStep names text ts n x i j → Keeps n a b → Says a ls x → Says b ls x
   one_kept x n i j ls a b (inl p) k h =
-      let s = local_says (Typed a) (Used a) u w ls names ts n i p.end p.init (subst (λ x. Says a ls x) p.tree h) in
-      subst (λ x. Says b ls x) (sym p.tree) (says_local (Typed b) (Used b) u w ls names ts n i p.end p.init (record {
+      let s = local_says (Typed a) (Used a) u w ls names text ts n i p.end p.init (subst (λ x. Says a ls x) p.tree h) in
+      subst (λ x. Says b ls x) (sym p.tree) (says_local (Typed b) (Used b) u w ls names text ts n i p.end p.init (record {
         left = s.left;
         left_is = s.left_is;
         fresh = s.fresh;
@@ -117,9 +117,9 @@ module _ (names : List (List ℕ)) (ts : List Tok) (u : SourceUnit) (w : World) 
         fits = s.fits;
       }))
   one_kept x n i j ls a b (inr (inl p)) k h =
-      let s = assign_says (Typed a) (Used a) u w ls names ts n i p.end p.from (subst (λ x. Says a ls x) p.tree h) in
+      let s = assign_says (Typed a) (Used a) u w ls names text ts n i p.end p.from (subst (λ x. Says a ls x) p.tree h) in
       let to = s.to in
-      subst (λ x. Says b ls x) (sym p.tree) (says_assign (Typed b) (Used b) u w ls names ts n i p.end p.from (record {
+      subst (λ x. Says b ls x) (sym p.tree) (says_assign (Typed b) (Used b) u w ls names text ts n i p.end p.from (record {
         left = s.left;
         to = record {
           local = to.local;
@@ -134,8 +134,8 @@ module _ (names : List (List ℕ)) (ts : List Tok) (u : SourceUnit) (w : World) 
         fits = s.fits;
       }))
   one_kept x n i j ls a b (inr (inr (stand, e, next))) k h =
-      let s = call_says (Typed a) (Used a) u w ls names ts n i (subst (λ x. Says a ls x) e h) in
-      subst (λ x. Says b ls x) (sym e) (says_call (Typed b) (Used b) u w ls names ts n i (record {
+      let s = call_says (Typed a) (Used a) u w ls names text ts n i (subst (λ x. Says a ls x) e h) in
+      subst (λ x. Says b ls x) (sym e) (says_call (Typed b) (Used b) u w ls names text ts n i (record {
         owner = s.owner;
         local = s.local;
         found = s.found;
@@ -147,7 +147,7 @@ module _ (names : List (List ℕ)) (ts : List Tok) (u : SourceUnit) (w : World) 
         uses = k.uses (n + 1) (omega arith) ∙ s.uses;
       }))
 
-  pub all_kept : (xs : Stmts) (n i j : ℕ) (ls : List Local) (a b : Annotation) → AreSteps names ts n xs i j → Keeps n a b → SayAll a ls xs → SayAll b ls xs
+  pub all_kept : (xs : Stmts) (n i j : ℕ) (ls : List Local) (a b : Annotation) → AreSteps names text ts n xs i j → Keeps n a b → SayAll a ls xs → SayAll b ls xs
   all_kept t.Last n i j ls a b steps k h = tt
   all_kept (t.Then x xs) n i j ls a b (m, step, steps) k (h, hs) =
       (one_kept x n i m ls a b step k h, all_kept xs (n + stmt_nodes x) m j (scope_after u ls x) a b steps (later n (n + stmt_nodes x) a b (omega arith) k) hs)
@@ -158,13 +158,13 @@ module _ (names : List (List ℕ)) (ts : List Tok) (u : SourceUnit) (w : World) 
     says : Gives tables ls e c
     keeps : (k : ℕ) → n < k → Keeps k b tables
 
-  with_value : (e : Expr) (n i j c : ℕ) (ls : List Local) (b : Annotation) → IsValue names ts n e i j → HasClass free unused u w ls e c → WithValue n c ls e b
+  with_value : (e : Expr) (n i j c : ℕ) (ls : List Local) (b : Annotation) → IsValue names text ts n e i j → HasClass free unused u w ls e c → WithValue n c ls e b
   with_value e n i j c ls b (inl (stand, is, next)) h =
-      let s = new_says free unused u w ls names ts n i c (subst (λ e. HasClass free unused u w ls e c) is h) in
+      let s = new_says free unused u w ls names text ts n i c (subst (λ e. HasClass free unused u w ls e c) is h) in
       let a : Annotation = with_both n (ty.Class c []) (use_of.Method s.constructor) b in
       subst (λ e. WithValue n c ls e b) (sym is) (record {
         tables = a;
-        says = says_new (Typed a) (Used a) u w ls names ts n i c (record {
+        says = says_new (Typed a) (Used a) u w ls names text ts n i c (record {
           class_is = s.class_is;
           has = put_here n (ty.Class c []) b.type_at;
           constructor = s.constructor;
@@ -174,11 +174,11 @@ module _ (names : List (List ℕ)) (ts : List Tok) (u : SourceUnit) (w : World) 
         keeps = λ k low. both_keep n k (ty.Class c []) (use_of.Method s.constructor) b low;
       })
   with_value e n i j c ls b (inr (stand, is, next)) h =
-      let s = name_says free unused u w ls names ts n i c (subst (λ e. HasClass free unused u w ls e c) is h) in
+      let s = name_says free unused u w ls names text ts n i c (subst (λ e. HasClass free unused u w ls e c) is h) in
       let a : Annotation = with_both n (ty.Class c []) (use_of.Local s.local.node) b in
       subst (λ e. WithValue n c ls e b) (sym is) (record {
         tables = a;
-        says = says_name (Typed a) (Used a) u w ls names ts n i c (record {
+        says = says_name (Typed a) (Used a) u w ls names text ts n i c (record {
           local = s.local;
           found = s.found;
           same = s.same;
@@ -188,7 +188,7 @@ module _ (names : List (List ℕ)) (ts : List Tok) (u : SourceUnit) (w : World) 
         keeps = λ k low. both_keep n k (ty.Class c []) (use_of.Local s.local.node) b low;
       })
 
-  value_has_nodes : (e : Expr) (n i j : ℕ) → IsValue names ts n e i j → 1 ≤ expr_nodes e
+  value_has_nodes : (e : Expr) (n i j : ℕ) → IsValue names text ts n e i j → 1 ≤ expr_nodes e
   value_has_nodes e n i j (inl (stand, is, next)) = subst (λ e. 1 ≤ expr_nodes e) (sym is) (omega arith)
   value_has_nodes e n i j (inr (stand, is, next)) = subst (λ e. 1 ≤ expr_nodes e) (sym is) (omega arith)
 
@@ -198,14 +198,14 @@ module _ (names : List (List ℕ)) (ts : List Tok) (u : SourceUnit) (w : World) 
     says : Says tables ls x
     keeps : Keeps (n + stmt_nodes x) b tables
 
-  with_one : (x : Stmt) (n i j : ℕ) (ls : List Local) (b : Annotation) → IsStep names ts n x i j → Free ls x → With n ls x b
+  with_one : (x : Stmt) (n i j : ℕ) (ls : List Local) (b : Annotation) → IsStep names text ts n x i j → Free ls x → With n ls x b
   with_one x n i j ls b (inl p) h =
-      let s = local_says free unused u w ls names ts n i p.end p.init (subst (λ x. Free ls x) p.tree h) in
+      let s = local_says free unused u w ls names text ts n i p.end p.init (subst (λ x. Free ls x) p.tree h) in
       let v = with_value p.init (n + 3) (i + 3) p.end s.right ls b p.value s.value in
       let nodes = value_has_nodes p.init (n + 3) (i + 3) p.end p.value in
       subst (λ x. With n ls x b) (sym p.tree) (record {
         tables = v.tables;
-        says = says_local (Typed v.tables) (Used v.tables) u w ls names ts n i p.end p.init (record {
+        says = says_local (Typed v.tables) (Used v.tables) u w ls names text ts n i p.end p.init (record {
           left = s.left;
           left_is = s.left_is;
           fresh = s.fresh;
@@ -216,7 +216,7 @@ module _ (names : List (List ℕ)) (ts : List Tok) (u : SourceUnit) (w : World) 
         keeps = v.keeps _ (omega (arith, nodes));
       })
   with_one x n i j ls b (inr (inl p)) h =
-      let s = assign_says free unused u w ls names ts n i p.end p.from (subst (λ x. Free ls x) p.tree h) in
+      let s = assign_says free unused u w ls names text ts n i p.end p.from (subst (λ x. Free ls x) p.tree h) in
       let to = s.to in
       let v = with_value p.from (n + 3) (i + 2) p.end s.right ls b p.value s.value in
       let nodes = value_has_nodes p.from (n + 3) (i + 2) p.end p.value in
@@ -227,7 +227,7 @@ module _ (names : List (List ℕ)) (ts : List Tok) (u : SourceUnit) (w : World) 
       then_keeps (n + 3) (n + 3) v.tables named a (omega arith) (both_keep (n + 2) (n + 3) class (use_of.Local to.local.node) v.tables (omega arith)) (type_keeps (n + 1) (n + 3) class named (omega arith)) in
       subst (λ x. With n ls x b) (sym p.tree) (record {
         tables = a;
-        says = says_assign (Typed a) (Used a) u w ls names ts n i p.end p.from (record {
+        says = says_assign (Typed a) (Used a) u w ls names text ts n i p.end p.from (record {
           left = s.left;
           to = record {
             local = to.local;
@@ -244,12 +244,12 @@ module _ (names : List (List ℕ)) (ts : List Tok) (u : SourceUnit) (w : World) 
         keeps = later (n + 4) _ b a (omega (arith, nodes)) (then_keeps (n + 4) (n + 3) b v.tables a (omega arith) (v.keeps (n + 4) (omega arith)) keeps);
       })
   with_one x n i j ls b (inr (inr (stand, e, next))) h =
-      let s = call_says free unused u w ls names ts n i (subst (λ x. Free ls x) e h) in
+      let s = call_says free unused u w ls names text ts n i (subst (λ x. Free ls x) e h) in
       let named : Annotation = with_both (n + 2) (ty.Class s.owner []) (use_of.Local s.local.node) b in
       let a : Annotation = with_use (n + 1) (use_of.Method s.method) named in
       subst (λ x. With n ls x b) (sym e) (record {
         tables = a;
-        says = says_call (Typed a) (Used a) u w ls names ts n i (record {
+        says = says_call (Typed a) (Used a) u w ls names text ts n i (record {
           owner = s.owner;
           local = s.local;
           found = s.found;
@@ -264,7 +264,7 @@ module _ (names : List (List ℕ)) (ts : List Tok) (u : SourceUnit) (w : World) 
             (then_keeps (n + 3) (n + 3) b named a (omega arith) (both_keep (n + 2) (n + 3) (ty.Class s.owner []) (use_of.Local s.local.node) b (omega arith)) (use_keeps (n + 1) (n + 3) (use_of.Method s.method) named (omega arith)));
       })
 
-  pub all_annotated : (xs : Stmts) (n i j : ℕ) (ls : List Local) → AreSteps names ts n xs i j → AreTyped free unused u w ls xs → (a : Annotation) × SayAll a ls xs
+  pub all_annotated : (xs : Stmts) (n i j : ℕ) (ls : List Local) → AreSteps names text ts n xs i j → AreTyped free unused u w ls xs → (a : Annotation) × SayAll a ls xs
   all_annotated t.Last n i j ls steps h = (record { type_at = λ m. None; use_at = λ m. None }, tt)
   all_annotated (t.Then x xs) n i j ls (m, step, steps) (h, hs) =
       let rest : (a : Annotation) × SayAll a (scope_after u ls x) xs = all_annotated xs (n + stmt_nodes x) m j (scope_after u ls x) steps hs in

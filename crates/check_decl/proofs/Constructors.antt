@@ -3,9 +3,9 @@ use Rattle.std.proofs.Common.{◌≡◌, ℕ, zero, suc, ◌+◌, ◌<◌, ◌�
 use Rattle.std.proofs.lemmas.Option.{option_and_then_some, same_Some}
 use Rattle.java_tree.specs.Plain as t
 use Rattle.java_tree.specs.Plain.{TypeExpr, Member, TypeDecl, SourceUnit}
-use Rattle.small_lexer.specs.declared.token.Tok.{Tok}
-use Rattle.small_parser.specs.Nodes.{member_nodes, decl_nodes}
-use Rattle.small_parser.specs.Grammar.{AreMethods, AreTypes, IsClass, Spells}
+use Rattle.java_grammar.specs.declared.token.Tok.{Tok}
+use Rattle.small_programs.specs.Nodes.{member_nodes, decl_nodes}
+use Rattle.small_programs.specs.Grammar.{AreMethods, AreTypes, IsClass, Spells}
 use Rattle.class_world.specs.declared.world.MethodInfo.{MethodInfo}
 use Rattle.java_typing.specs.Main.{before_last}
 use Rattle.java_typing.specs.WorldOf.{place_of, simple_name, class_named, method_info, methods_of, default_constructor, object_constructor, world_of}
@@ -176,21 +176,21 @@ one_in_world u none (suc k) (suc l) i j e f is_i is_j same = ap suc (one_each u 
 pub one_constructor : (u : SourceUnit) → NoConstructors u.types → (c k l : ℕ) → IsConstructor (world_of u) c k → IsConstructor (world_of u) c l → k ≡ l
 one_constructor u none c k l a b = one_in_world u none k l a.0 b.0 a.1 b.1 a.3 b.3 (a.2 ∙ sym b.2)
 
-module _ (names : List (List ℕ)) (ts : List Tok) where
-  methods_plain : (ms : List Member) (n i j : ℕ) → AreMethods names ts n ms i j → NoConstructor ms
+module _ (names : List (List ℕ)) (text : List ℕ) (ts : List Tok) where
+  methods_plain : (ms : List Member) (n i j : ℕ) → AreMethods names text ts n ms i j → NoConstructor ms
   methods_plain [] n i j are = tt
   methods_plain (x ∷ xs) n i j (m, is, rest) =
       subst (λ x. NoConstructor (x ∷ xs)) (sym is.tree) (refl, methods_plain xs (n + member_nodes x) m j rest)
 
-  class_plain : (d : TypeDecl) (n i j : ℕ) → IsClass names ts n d i j → NoConstructor d.members
+  class_plain : (d : TypeDecl) (n i j : ℕ) → IsClass names text ts n d i j → NoConstructor d.members
   class_plain d n i j (inl is) = subst (λ (d : TypeDecl). NoConstructor d.members) (sym is.tree) (methods_plain is.members _ _ _ is.methods)
   class_plain d n i j (inr is) = subst (λ (d : TypeDecl). NoConstructor d.members) (sym is.tree) (methods_plain is.members _ _ _ is.methods)
 
-  types_plain : (ds : List TypeDecl) (n i j : ℕ) → AreTypes names ts n ds i j → NoConstructors ds
+  types_plain : (ds : List TypeDecl) (n i j : ℕ) → AreTypes names text ts n ds i j → NoConstructors ds
   types_plain [] n i j are = tt
   types_plain (d ∷ []) n i j are = (subst (λ (d : TypeDecl). NoConstructor d.members) (sym are.tree) (refl, tt), tt)
   types_plain (d ∷ e ∷ ds) n i j (m, is, rest) = (class_plain d n i m is, types_plain (e ∷ ds) (n + decl_nodes d) m j rest)
 
   -- a small file declares no constructor
-  pub none_declared : (u : SourceUnit) → Spells names ts u → NoConstructors u.types
+  pub none_declared : (u : SourceUnit) → Spells names text ts u → NoConstructors u.types
   none_declared u s = subst (λ (u : SourceUnit). NoConstructors u.types) (sym s.tree) (types_plain s.types 1 0 (length ts) s.are)

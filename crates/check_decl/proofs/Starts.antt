@@ -2,8 +2,8 @@
 use Rattle.std.proofs.Common.{◌≡◌, ℕ, ◌+◌, List, [], ◌∷◌, length, Some, None, slice_get, unwrap_or, false, refl, ap, sym, ◌∙◌, subst}
 use Rattle.std.proofs.lemmas.Option.{same_Some, none-some}
 use Rattle.java_tree.specs.Plain.{Param, TypeDecl, SourceUnit}
-use Rattle.small_lexer.specs.declared.token.Tok.{Tok}
-use Rattle.small_parser.specs.Grammar.{Spells, node_of, name_at, type_at}
+use Rattle.java_grammar.specs.declared.token.Tok.{Tok}
+use Rattle.small_programs.specs.Grammar.{Spells, node_of, name_at, type_at}
 use Rattle.class_world.specs.declared.world.World.{World}
 use Rattle.class_world.specs.declared.world.JavaType.{JavaType}
 use Rattle.class_world.specs.declared.world.JavaType.TheVariants as ty
@@ -23,15 +23,15 @@ pub record HasArguments (u : SourceUnit) : Type 0 where
   pub item : JavaType
   pub array : param_type u param ≡ ty.Array item
 
-pub arguments_of : (names : List (List ℕ)) (ts : List Tok) (u : SourceUnit) → Spells names ts u → HasArguments u
-arguments_of names ts u s =
-    let h : (d : TypeDecl) × (last_type s.types ≡ Some d) × HasMain names ts d = last_is_main names ts s.types 1 0 (length ts) s.are in
+pub arguments_of : (names : List (List ℕ)) (text : List ℕ) (ts : List Tok) (u : SourceUnit) → Spells names text ts u → HasArguments u
+arguments_of names text ts u s =
+    let h : (d : TypeDecl) × (last_type s.types ≡ Some d) × HasMain names text ts d = last_is_main names text ts s.types 1 0 (length ts) s.are in
     let m = h.2.main in
     let n = h.2.node + 1 in
     let i = h.2.from + 3 in
-    let p : Param = record { node = node_of names ts (n + 1) (i + 5) (i + 9); is_final = false; ty = type_at names ts (n + 2) (i + 5) 1; name = name_at names ts (i + 8); dims = 0 } in
+    let p : Param = record { node = node_of names text ts (n + 1) (i + 5) (i + 9); is_final = false; ty = type_at names text ts (n + 2) (i + 5) 1; name = name_at names text ts (i + 8); dims = 0 } in
     let only : params_of (main_method u) ≡ p ∷ [] = rw (s.tree, h.1, m.tree) refl in
-    record { param = p; only = only; item = ty.Class (unwrap_or (type_number u.types (name_at names ts (i + 5))) 0) []; array = refl }
+    record { param = p; only = only; item = ty.Class (unwrap_or (type_number u.types (name_at names text ts (i + 5))) 0) []; array = refl }
 
 at_start_is : (u : SourceUnit) (w : World) (a : HasArguments u) → at_start u w ≡ record { name = a.param.name; node = a.param.node.id; ty = param_type u a.param } ∷ []
 at_start_is u w a = rw a.only refl

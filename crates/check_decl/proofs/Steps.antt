@@ -3,8 +3,8 @@ use Rattle.std.proofs.Common.{◌≡◌, ℕ, ◌+◌, List, [], ◌∷◌, leng
 use Rattle.std.proofs.lemmas.Option.{same_Some}
 use Rattle.java_tree.specs.declared.tree.Name.{Name}
 use Rattle.java_tree.specs.Plain.{TypeExpr, Expr, Stmts, TypeDecl, SourceUnit}
-use Rattle.small_lexer.specs.declared.token.Tok.{Tok}
-use Rattle.small_parser.specs.Grammar.{AreTypes, IsMain, AreSteps, Spells, local_at, assign_at, call_at, new_at, name_expr, name_at, type_at}
+use Rattle.java_grammar.specs.declared.token.Tok.{Tok}
+use Rattle.small_programs.specs.Grammar.{AreTypes, IsMain, AreSteps, Spells, local_at, assign_at, call_at, new_at, name_expr, name_at, type_at}
 use Rattle.class_world.specs.declared.world.World.{World}
 use Rattle.class_world.specs.declared.world.JavaType.{JavaType}
 use Rattle.class_world.specs.declared.world.JavaType.TheVariants as ty
@@ -16,15 +16,15 @@ use Rattle.java_typing.specs.declared.table.Use.TheVariants as use_of
 use Rattle.java_typing.specs.Main.{main_steps, last_type}
 use Rattle.java_typing.specs.Typing.{Local, find_local, step_type, IsConstructor, IsStmtTyped, HasClass}
 
-module _ (names : List (List ℕ)) (ts : List Tok) where
+module _ (names : List (List ℕ)) (text : List ℕ) (ts : List Tok) where
   -- the last type of a small file is the class with main
   pub record HasMain (d : TypeDecl) : Type 0 where
     pub node : ℕ
     pub from : ℕ
     pub to : ℕ
-    pub main : IsMain names ts node d from to
+    pub main : IsMain names text ts node d from to
 
-  pub last_is_main : (ds : List TypeDecl) (n i j : ℕ) → AreTypes names ts n ds i j → (d : TypeDecl) × (last_type ds ≡ Some d) × HasMain d
+  pub last_is_main : (ds : List TypeDecl) (n i j : ℕ) → AreTypes names text ts n ds i j → (d : TypeDecl) × (last_type ds ≡ Some d) × HasMain d
   last_is_main [] n i j are = absurd are
   last_is_main (d ∷ []) n i j are = (d, refl, record { node = n; from = i; to = j; main = are })
   last_is_main (d ∷ e ∷ ds) n i j (m, first, rest) = last_is_main (e ∷ ds) _ m j rest
@@ -34,9 +34,9 @@ module _ (names : List (List ℕ)) (ts : List Tok) where
     pub node : ℕ
     pub from : ℕ
     pub to : ℕ
-    pub steps : AreSteps names ts node xs from to
+    pub steps : AreSteps names text ts node xs from to
 
-  pub steps_of_main : (u : SourceUnit) → Spells names ts u → HasSteps (main_steps u)
+  pub steps_of_main : (u : SourceUnit) → Spells names text ts u → HasSteps (main_steps u)
   steps_of_main u s =
       let h : (d : TypeDecl) × (last_type s.types ≡ Some d) × HasMain d = last_is_main s.types 1 0 (length ts) s.are in
       let m = h.2.main in
@@ -90,8 +90,8 @@ module _ (typed : ℕ → JavaType → Type 0) (used : ℕ → Use → Type 0) (
     pub chosen : IsChosen w owner m method
     pub uses : used n (use_of.Method method)
 
-  module _ (names : List (List ℕ)) (ts : List Tok) (n i : ℕ) where
-    pub new_says : (c : ℕ) → HasClass typed used u w ls (new_at names ts n i) c → NewSays (type_at names ts (n + 1) (i + 1) 0) n c
+  module _ (names : List (List ℕ)) (text : List ℕ) (ts : List Tok) (n i : ℕ) where
+    pub new_says : (c : ℕ) → HasClass typed used u w ls (new_at names text ts n i) c → NewSays (type_at names text ts (n + 1) (i + 1) 0) n c
     new_says c h =
         let class : h.0 ≡ c = sym (same_number c h.0 [] [] h.2).0 in
         record {
@@ -102,16 +102,16 @@ module _ (typed : ℕ → JavaType → Type 0) (used : ℕ → Use → Type 0) (
           uses = h.6;
         }
 
-    pub says_new : (c : ℕ) → NewSays (type_at names ts (n + 1) (i + 1) 0) n c → HasClass typed used u w ls (new_at names ts n i) c
+    pub says_new : (c : ℕ) → NewSays (type_at names text ts (n + 1) (i + 1) 0) n c → HasClass typed used u w ls (new_at names text ts n i) c
     says_new c s = (c, s.class_is, refl, s.has, s.constructor, s.is_constructor, s.uses)
 
-    pub name_says : (c : ℕ) → HasClass typed used u w ls (name_expr names ts n i) c → NameSays (name_at names ts i) n c
+    pub name_says : (c : ℕ) → HasClass typed used u w ls (name_expr names text ts n i) c → NameSays (name_at names text ts i) n c
     name_says c h = record { local = h.0; found = h.1; same = h.2; has = h.3; uses = h.4 }
 
-    pub says_name : (c : ℕ) → NameSays (name_at names ts i) n c → HasClass typed used u w ls (name_expr names ts n i) c
+    pub says_name : (c : ℕ) → NameSays (name_at names text ts i) n c → HasClass typed used u w ls (name_expr names text ts n i) c
     says_name c s = (s.local, s.found, s.same, s.has, s.uses)
 
-    pub local_says : (m : ℕ) (e : Expr) → IsStmtTyped typed used u w ls (local_at names ts n i m e) → LocalSays (type_at names ts (n + 1) i 0) (name_at names ts (i + 1)) e
+    pub local_says : (m : ℕ) (e : Expr) → IsStmtTyped typed used u w ls (local_at names text ts n i m e) → LocalSays (type_at names text ts (n + 1) i 0) (name_at names text ts (i + 1)) e
     local_says m e (c, is, fresh, from, init, d, h, below) = record {
       left = c;
       left_is = is;
@@ -121,10 +121,10 @@ module _ (typed : ℕ → JavaType → Type 0) (used : ℕ → Use → Type 0) (
       fits = below;
     }
 
-    pub says_local : (m : ℕ) (e : Expr) → LocalSays (type_at names ts (n + 1) i 0) (name_at names ts (i + 1)) e → IsStmtTyped typed used u w ls (local_at names ts n i m e)
+    pub says_local : (m : ℕ) (e : Expr) → LocalSays (type_at names text ts (n + 1) i 0) (name_at names text ts (i + 1)) e → IsStmtTyped typed used u w ls (local_at names text ts n i m e)
     says_local m e s = (s.left, s.left_is, s.fresh, e, refl, s.right, s.value, s.fits)
 
-    pub assign_says : (m : ℕ) (e : Expr) → IsStmtTyped typed used u w ls (assign_at names ts n i m e) → AssignSays (name_at names ts i) e (n + 1) (n + 2)
+    pub assign_says : (m : ℕ) (e : Expr) → IsStmtTyped typed used u w ls (assign_at names text ts n i m e) → AssignSays (name_at names text ts i) e (n + 1) (n + 2)
     assign_says m e (c, (l, found, same, has, uses), typed, d, h, below) = record {
       left = c;
       to = record { local = l; found = found; same = same; has = has; uses = uses };
@@ -134,12 +134,12 @@ module _ (typed : ℕ → JavaType → Type 0) (used : ℕ → Use → Type 0) (
       fits = below;
     }
 
-    pub says_assign : (m : ℕ) (e : Expr) → AssignSays (name_at names ts i) e (n + 1) (n + 2) → IsStmtTyped typed used u w ls (assign_at names ts n i m e)
+    pub says_assign : (m : ℕ) (e : Expr) → AssignSays (name_at names text ts i) e (n + 1) (n + 2) → IsStmtTyped typed used u w ls (assign_at names text ts n i m e)
     says_assign m e s =
         let to = s.to in
         (s.left, (to.local, to.found, to.same, to.has, to.uses), s.has, s.right, s.value, s.fits)
 
-    pub call_says : IsStmtTyped typed used u w ls (call_at names ts n i) → CallSays (name_at names ts i) (name_at names ts (i + 2)) (n + 1) (n + 2)
+    pub call_says : IsStmtTyped typed used u w ls (call_at names text ts n i) → CallSays (name_at names text ts i) (name_at names text ts (i + 2)) (n + 1) (n + 2)
     call_says (c, (l, found, same, has, uses_local), k, chosen, uses) = record {
       owner = c;
       local = l;
@@ -152,5 +152,5 @@ module _ (typed : ℕ → JavaType → Type 0) (used : ℕ → Use → Type 0) (
       uses = uses;
     }
 
-    pub says_call : CallSays (name_at names ts i) (name_at names ts (i + 2)) (n + 1) (n + 2) → IsStmtTyped typed used u w ls (call_at names ts n i)
+    pub says_call : CallSays (name_at names text ts i) (name_at names text ts (i + 2)) (n + 1) (n + 2) → IsStmtTyped typed used u w ls (call_at names text ts n i)
     says_call h = (h.owner, (h.local, h.found, h.same, h.has, h.uses_local), h.method, h.chosen, h.uses)

@@ -4,8 +4,8 @@ ghost use Rattle.std.specs.Prelude.{◌≡◌, ℕ, Bool, List, [], ◌∷◌, N
 ghost use Rattle.java_tree.specs.Plain as t;
 ghost use Rattle.java_tree.specs.declared.tree.Node as nodes;
 ghost use Rattle.java_tree.specs.View.{plain, type_plain, var_plain, stmt_plain, stmts_plain, unit_plain};
-ghost use Rattle.small_lexer.specs.declared.token.Tok as toks;
-ghost use Rattle.small_parser.specs.Grammar.{Spells};
+ghost use Rattle.java_grammar.specs.declared.token.Tok as toks;
+ghost use Rattle.small_programs.specs.Grammar.{Spells};
 ghost use Rattle.class_world.specs.declared.world.World as worlds;
 ghost use Rattle.java_typing.specs.Typing.{Local, StepsHold};
 ghost use Rattle.check_decl.specs.Scopes.{Binds};
@@ -138,7 +138,7 @@ fn steps_hold(declared: &Declared, mut scope: Scope, steps: &[Stmt]) -> Result<b
 
 /// The scope at main's first statement: its parameter, an array of strings.
 fn main_scope(alloc: Global, unit: &SourceUnit) -> Result<Scope, NoMemory>
-    requires { (names : List (List ℕ)) × (ts : List toks.Tok) × Spells names ts (unit_plain unit.now) }
+    requires { (names : List (List ℕ)) × (text : List ℕ) × (ts : List toks.Tok) × Spells names text ts (unit_plain unit.now) }
     ensures { IfOk result (λ scope. (w : worlds.World) → Binds scope (at_start (unit_plain unit.now) w)) }
 {
     let mut scope = Scope::new(alloc);
@@ -150,7 +150,7 @@ fn main_scope(alloc: Global, unit: &SourceUnit) -> Result<Scope, NoMemory>
 
 /// Whether no typing rule is broken in main (T4, T5, T25, T33, T36, T38, T58).
 pub fn check_small(alloc: Global, unit: &SourceUnit, declared: &Declared) -> Result<bool, NoMemory>
-    requires small { (names : List (List ℕ)) × (ts : List toks.Tok) × Spells names ts (unit_plain unit.now) }
+    requires small { (names : List (List ℕ)) × (text : List ℕ) × (ts : List toks.Tok) × Spells names text ts (unit_plain unit.now) }
     requires tables { AreOf declared.now (unit_plain unit.now) }
     requires ready { IsReady declared.now }
     ensures { IfOk result (λ b. IsTrue b ↔ StepsHold (unit_plain unit.now) declared.now.world) }

@@ -6,7 +6,7 @@ use Rattle.java_tree.specs.declared.tree.Head.TheVariants as head
 use Rattle.java_tree.specs.declared.tree.Import.{Import}
 use Rattle.java_tree.specs.Plain as t
 use Rattle.java_tree.specs.Plain.{TypeExpr, TypeExprs, Expr, MaybeExpr, Exprs, Var, Param, Stmt, MaybeStmt, Stmts, Group, Groups, Catch, Catches, FieldDecl, MethodDecl, Member, TypeDecl, SourceUnit}
-use Rattle.small_lexer.specs.Replaced.{Change, moved, moved_span}
+use Rattle.small_programs.specs.Replaced.{Change, moved, moved_span}
 
 -- The head of a written type becomes the simple name with this number where it begins at the change. Nodes keep their numbers.
 module _ (c : Change) where

@@ -3,7 +3,7 @@
 
 ghost use Rattle.std.specs.Prelude.{◌≡◌, List, length};
 ghost use Rattle.java_tree.specs.Plain.{SourceUnit};
-ghost use Rattle.small_lexer.specs.Replaced.{Change};
+ghost use Rattle.small_programs.specs.Replaced.{Change};
 ghost use Rattle.constraint_terms.specs.Effect.{generalized};
 
 /// A change keeps the number of declared types.

@@ -6,8 +6,8 @@ use Rattle.java_tree.specs.declared.tree.Name.{Name}
 use Rattle.java_tree.specs.declared.tree.Span.{Span}
 use Rattle.java_tree.specs.Plain as t
 use Rattle.java_tree.specs.Plain.{Expr, Var, Stmt, TypeExpr, SourceUnit}
-use Rattle.small_lexer.proofs.Places.{here}
-use Rattle.small_lexer.proofs.TokenLemmas.{within}
+use Rattle.small_programs.proofs.Places.{here}
+use Rattle.small_programs.proofs.TokenLemmas.{within}
 use Rattle.class_world.specs.declared.world.World.{World}
 use Rattle.class_world.specs.declared.world.JavaType.TheVariants as ty
 use Rattle.class_world.specs.Subtypes.{Subtype}
@@ -49,16 +49,16 @@ module _ (names : List (List ℕ)) (text : List ℕ) (u : SourceUnit) (w : World
   -- its node begins at a byte of the text
   pub starts_within : (s : Stmt) (x : NameUse) → HasStmt (main_steps u) s → written_use s ≡ Some x → x.node.span.from < length text
   starts_within s x has e =
-      let at = use_at names given.tokens (order names text u w given) u given.spells s x has e in
+      let at = use_at names text given.tokens (order names text u w given) u given.spells s x has e in
       let found = here given.tokens at.place at.in_place in
       let span = within names text given.tokens given.lexes at.place found.0 found.1 in
       let is = at.from ∙ sym (begins given.tokens at.place (at.place + 1)) ∙ ap (λ (s : Span). s.from) (place_of given.tokens at.place found.0 found.1) in
       omega (arith, is, span.0, span.1)
 
-  -- the other name has a text
+  -- the other name is in the table
   other_within : (s : Stmt) (x : NameUse) → HasStmt (main_steps u) s → written_use s ≡ Some x → (other_name x.kind).0 < length names
   other_within s x has e =
-      let at = use_at names given.tokens (order names text u w given) u given.spells s x has e in
+      let at = use_at names text given.tokens (order names text u w given) u given.spells s x has e in
       subst (λ (n : Name). n.0 < length names) (sym at.is) (word_within names text u w given at.other at.word)
 
   -- ---- uses that the new type does not meet
@@ -79,7 +79,7 @@ module _ (names : List (List ℕ)) (text : List ℕ) (u : SourceUnit) (w : World
         }
 
     use_unmet : (x : Local) (s : Stmt) (a : NameUse) → HasStmt (main_steps u) s → written_use s ≡ Some a → is_unmet x.name members misfits a ≡ true → IsUnmet u w x target (kind_of a.kind) a.node
-    use_unmet x s a has e test = by_form (use_at names given.tokens (order names text u w given) u given.spells s a has e).whole
+    use_unmet x s a has e test = by_form (use_at names text given.tokens (order names text u w given) u given.spells s a has e).whole
       where
         name : a.name ≡ x.name
         name = one_name a.name x.name (same_number a.name.0 x.name.0 (both_true (a.name.0 == x.name.0) (fails x.name members misfits a.kind) test).0)
@@ -170,7 +170,7 @@ module _ (names : List (List ℕ)) (text : List ℕ) (u : SourceUnit) (w : World
         before other n un =
             let o = unmet_use x other n un in
             let low = first.least (main_in_order names text u w given) o.stmt o.used o.has o.is o.test in
-            subst (λ (n : Node). a.node.id ≤ n.id) o.node (rises names given.tokens (order names text u w given) u given.spells first.stmt o.stmt a o.used first.has o.has first.is o.is low)
+            subst (λ (n : Node). a.node.id ≤ n.id) o.node (rises names text given.tokens (order names text u w given) u given.spells first.stmt o.stmt a o.used first.has o.has first.is o.is low)
 
     module _ (x : Local) (none : (s : Stmt) (a : NameUse) → HasStmt (main_steps u) s → written_use s ≡ Some a → is_unmet x.name members misfits a ≡ true → ⊥) where
       pub none_unmet : (kind : CKind) (n : Node) → IsUnmet u w x target kind n → ⊥

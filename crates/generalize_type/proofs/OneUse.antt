@@ -5,11 +5,11 @@ use Rattle.java_tree.specs.declared.tree.Node.{Node}
 use Rattle.java_tree.specs.declared.tree.Name.{Name}
 use Rattle.java_tree.specs.Plain as t
 use Rattle.java_tree.specs.Plain.{Expr, Var, Stmt, TypeExpr, SourceUnit}
-use Rattle.small_lexer.specs.declared.token.Tok.{Tok}
-use Rattle.small_lexer.specs.declared.token.Sort.TheVariants as sort
-use Rattle.small_lexer.specs.Reads.{sort_at, from_at}
-use Rattle.small_parser.specs.Nodes.{stmt_nodes}
-use Rattle.small_parser.specs.Grammar.{Stand, node_of, name_at, name_expr, type_at, local_at, assign_at, call_at, IsValue, IsStep, Spells}
+use Rattle.java_grammar.specs.declared.token.Tok.{Tok}
+use Rattle.java_grammar.specs.declared.token.Sort.TheVariants as sort
+use Rattle.java_grammar.specs.Reads.{sort_at, from_at}
+use Rattle.small_programs.specs.Nodes.{stmt_nodes}
+use Rattle.small_programs.specs.Grammar.{Stand, node_of, name_at, name_expr, type_at, local_at, assign_at, call_at, IsValue, IsStep, Spells}
 use Rattle.class_world.specs.declared.world.World.{World}
 use Rattle.java_typing.specs.Main.{main_steps, HasStmt}
 use Rattle.tree_edit.specs.Order.{InOrder}
@@ -53,7 +53,7 @@ use_constrained u (t.Value n (t.Assign a None (t.Name k to) (t.Name m y))) x has
     subst (λ (x : NameUse). IsConstrained u x.node) same (inr (to, y, by_assignment n a k has))
 use_constrained u _ x has e = absurd (cc)
 
-module _ (names : List (List ℕ)) (ts : List Tok) (order : InOrder ts) (u : SourceUnit) (spells : Spells names ts u) where
+module _ (names : List (List ℕ)) (text : List ℕ) (ts : List Tok) (order : InOrder ts) (u : SourceUnit) (spells : Spells names text ts u) where
   -- where a use of main stands
   pub record UseAt (s : Stmt) (x : NameUse) : Type 0 where
     pub low : (stmt_root s).id ≤ x.node.id
@@ -63,16 +63,16 @@ module _ (names : List (List ℕ)) (ts : List Tok) (order : InOrder ts) (u : Sou
     pub from : x.node.span.from ≡ from_at ts place
     pub other : ℕ
     pub word : sort_at ts other ≡ sort.Word
-    pub is : other_name x.kind ≡ name_at names ts other
+    pub is : other_name x.kind ≡ name_at names text ts other
     pub whole : UseIn s x
 
   abbrev value_at : ℕ → ℕ → Name → NameUse
-  value_at n i to = record { node = node_of names ts n i (i + 1); name = name_at names ts i; kind = Flow to }
+  value_at n i to = record { node = node_of names text ts n i (i + 1); name = name_at names text ts i; kind = Flow to }
 
   abbrev call_use : ℕ → ℕ → NameUse
-  call_use n i = record { node = node_of names ts (n + 1) i (i + 5); name = name_at names ts i; kind = Call (name_at names ts (i + 2)) }
+  call_use n i = record { node = node_of names text ts (n + 1) i (i + 5); name = name_at names text ts i; kind = Call (name_at names text ts (i + 2)) }
 
-  call_place : (n i : ℕ) → Stand names ts call_sorts i → UseAt (call_at names ts n i) (call_use n i)
+  call_place : (n i : ℕ) → Stand names text ts call_sorts i → UseAt (call_at names text ts n i) (call_use n i)
   call_place n i stand = record {
     low = omega arith;
     high = omega arith;
@@ -80,13 +80,13 @@ module _ (names : List (List ℕ)) (ts : List Tok) (order : InOrder ts) (u : Sou
     in_place = inside ts i (λ e. let word = stand.0 in cc);
     from = begins ts i (i + 5);
     other = i + 2;
-    word = stand_at names ts call_sorts i 2 sort.Word stand refl;
+    word = stand_at names text ts call_sorts i 2 sort.Word stand refl;
     is = refl;
-    whole = a_call (node_of names ts n i (i + 6)) (node_of names ts (n + 2) i (i + 1)) (name_at names ts (i + 2)) refl refl;
+    whole = a_call (node_of names text ts n i (i + 6)) (node_of names text ts (n + 2) i (i + 1)) (name_at names text ts (i + 2)) refl refl;
   }
 
-  initial_place : (n i m : ℕ) → Stand names ts local_sorts i → sort_at ts (i + 3) ≡ sort.Word
-      → UseAt (local_at names ts n i m (name_expr names ts (n + 3) (i + 3))) (value_at (n + 3) (i + 3) (name_at names ts (i + 1)))
+  initial_place : (n i m : ℕ) → Stand names text ts local_sorts i → sort_at ts (i + 3) ≡ sort.Word
+      → UseAt (local_at names text ts n i m (name_expr names text ts (n + 3) (i + 3))) (value_at (n + 3) (i + 3) (name_at names text ts (i + 1)))
   initial_place n i m stand value = record {
     low = omega arith;
     high = omega arith;
@@ -96,13 +96,13 @@ module _ (names : List (List ℕ)) (ts : List Tok) (order : InOrder ts) (u : Sou
     other = i + 1;
     word = stand.1.0;
     is = refl;
-    whole = initial (node_of names ts n i (m + 1)) false (type_at names ts (n + 1) i 0)
-        (record { node = node_of names ts (n + 2) (i + 1) m; name = name_at names ts (i + 1); dims = 0; init = Some (name_expr names ts (n + 3) (i + 3)) })
+    whole = initial (node_of names text ts n i (m + 1)) false (type_at names text ts (n + 1) i 0)
+        (record { node = node_of names text ts (n + 2) (i + 1) m; name = name_at names text ts (i + 1); dims = 0; init = Some (name_expr names text ts (n + 3) (i + 3)) })
         refl refl refl;
   }
 
-  assigned_place : (n i m : ℕ) → Stand names ts assign_sorts i → sort_at ts (i + 2) ≡ sort.Word
-      → UseAt (assign_at names ts n i m (name_expr names ts (n + 3) (i + 2))) (value_at (n + 3) (i + 2) (name_at names ts i))
+  assigned_place : (n i m : ℕ) → Stand names text ts assign_sorts i → sort_at ts (i + 2) ≡ sort.Word
+      → UseAt (assign_at names text ts n i m (name_expr names text ts (n + 3) (i + 2))) (value_at (n + 3) (i + 2) (name_at names text ts i))
   assigned_place n i m stand value = record {
     low = omega arith;
     high = omega arith;
@@ -112,7 +112,7 @@ module _ (names : List (List ℕ)) (ts : List Tok) (order : InOrder ts) (u : Sou
     other = i;
     word = stand.0;
     is = refl;
-    whole = assigned (node_of names ts n i (m + 1)) (node_of names ts (n + 1) i m) (node_of names ts (n + 2) i (i + 1)) (name_at names ts i) refl refl;
+    whole = assigned (node_of names text ts n i (m + 1)) (node_of names text ts (n + 1) i m) (node_of names text ts (n + 2) i (i + 1)) (name_at names text ts i) refl refl;
   }
 
   alike_use : (s s' : Stmt) (x x' : NameUse) → written_use s ≡ Some x → s ≡ s' → written_use s' ≡ Some x' → UseAt s' x' → UseAt s x
@@ -126,10 +126,10 @@ module _ (names : List (List ℕ)) (ts : List Tok) (order : InOrder ts) (u : Sou
   pub use_at : (s : Stmt) (x : NameUse) → HasStmt (main_steps u) s → written_use s ≡ Some x → UseAt s x
   use_at s x has e = by_step there.is
     where
-      there : Stands names ts s
-      there = main_step names ts u spells s has
+      there : Stands names text ts s
+      there = main_step names text ts u spells s has
 
-      by_step : IsStep names ts there.number s there.place there.next → UseAt s x
+      by_step : IsStep names text ts there.number s there.place there.next → UseAt s x
       by_step (inl h) = by_value h.value
         where
           n : ℕ
@@ -138,10 +138,10 @@ module _ (names : List (List ℕ)) (ts : List Tok) (order : InOrder ts) (u : Sou
           i : ℕ
           i = there.place
 
-          tree : (v : Expr) → h.init ≡ v → s ≡ local_at names ts n i h.end v
-          tree v is = h.tree ∙ ap (local_at names ts n i h.end) is
+          tree : (v : Expr) → h.init ≡ v → s ≡ local_at names text ts n i h.end v
+          tree v is = h.tree ∙ ap (local_at names text ts n i h.end) is
 
-          by_value : IsValue names ts (n + 3) h.init (i + 3) h.end → UseAt s x
+          by_value : IsValue names text ts (n + 3) h.init (i + 3) h.end → UseAt s x
           by_value (inl (stand, is, next)) = absurd (no_use s _ x e (tree _ is) refl)
           by_value (inr (stand, is, next)) = alike_use s _ x _ e (tree _ is) refl (initial_place n i h.end h.stand stand.0)
       by_step (inr (inl h)) = by_value h.value
@@ -152,10 +152,10 @@ module _ (names : List (List ℕ)) (ts : List Tok) (order : InOrder ts) (u : Sou
           i : ℕ
           i = there.place
 
-          tree : (v : Expr) → h.from ≡ v → s ≡ assign_at names ts n i h.end v
-          tree v is = h.tree ∙ ap (assign_at names ts n i h.end) is
+          tree : (v : Expr) → h.from ≡ v → s ≡ assign_at names text ts n i h.end v
+          tree v is = h.tree ∙ ap (assign_at names text ts n i h.end) is
 
-          by_value : IsValue names ts (n + 3) h.from (i + 2) h.end → UseAt s x
+          by_value : IsValue names text ts (n + 3) h.from (i + 2) h.end → UseAt s x
           by_value (inl (stand, is, next)) = absurd (no_use s _ x e (tree _ is) refl)
           by_value (inr (stand, is, next)) = alike_use s _ x _ e (tree _ is) refl (assigned_place n i h.end h.stand stand.0)
       by_step (inr (inr (stand, tree, next))) = alike_use s _ x _ e tree refl (call_place there.number there.place stand)
@@ -167,13 +167,13 @@ module _ (names : List (List ℕ)) (ts : List Tok) (order : InOrder ts) (u : Sou
   apart s s' x x' has has' e e' lt =
       let one = use_at s x has e in
       let two = use_at s' x' has' e' in
-      let behind = nodes_apart names ts u spells s s' has has' lt in
+      let behind = nodes_apart names text ts u spells s s' has has' lt in
       omega (arith, one.high, two.low, behind)
 
   alike : (s s' : Stmt) (x x' : NameUse) → HasStmt (main_steps u) s → HasStmt (main_steps u) s' → written_use s ≡ Some x → written_use s' ≡ Some x' → (stmt_root s).id ≡ (stmt_root s').id
       → x ≡ x'
   alike s s' x x' has has' e e' same =
-      let one = numbered_once (main_steps u) (steps_in_order names ts order u spells) s s' has has' same in
+      let one = numbered_once (main_steps u) (steps_in_order names text ts order u spells) s s' has has' same in
       let read = ap written_use one in
       cc
 

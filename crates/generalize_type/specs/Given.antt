@@ -2,9 +2,9 @@
 use Rattle.std.specs.Prelude.{◌≡◌, ℕ, List}
 use Rattle.java_tree.specs.Names.{IsTable}
 use Rattle.java_tree.specs.Plain.{SourceUnit}
-use Rattle.small_lexer.specs.declared.token.Tok.{Tok}
-use Rattle.small_lexer.specs.Lexing.{Lexes}
-use Rattle.small_parser.specs.Grammar.{Spells}
+use Rattle.java_grammar.specs.declared.token.Tok.{Tok}
+use Rattle.small_programs.specs.Texts.{Lexes}
+use Rattle.small_programs.specs.Grammar.{Spells}
 use Rattle.class_world.specs.declared.world.World.{World}
 use Rattle.class_world.specs.Subtypes.{IsClassTree}
 use Rattle.class_world.specs.Names.{ListsMethods}
@@ -15,7 +15,7 @@ use Rattle.java_typing.specs.Typing.{StepsHold}
 pub record IsGiven (names : List (List ℕ)) (text : List ℕ) (u : SourceUnit) (w : World) : Type 0 where
   pub tokens : List Tok
   pub lexes : Lexes names text tokens
-  pub spells : Spells names tokens u
+  pub spells : Spells names text tokens u
   pub declarations : DeclarationsHold names u w
   pub steps : StepsHold u w
   pub world : w ≡ world_of u

@@ -9,6 +9,7 @@ use Rattle.java_tree.proofs.Tables.{front_of_front}
 use Rattle.java_grammar.specs.declared.token.Tok.{Tok}
 use Rattle.java_grammar.specs.declared.token.Sort.{Sort}
 use Rattle.java_grammar.specs.Sorts.{bytes_in, HasName, IsTok, AreToks}
+use Rattle.java_grammar.specs.Interned.{with_word, interned}
 
 name_kept : (a b : List (List ℕ)) → IsFront a b → (k : Kind) (w : List ℕ) (n : ℕ) → HasName a k w n → HasName b k w n
 name_kept a b f kind.Word w n h = f n w h
@@ -78,21 +79,29 @@ take_more [] i x e = absurd (cc)
 take_more (y ∷ ys) zero x e = let same : y ≡ x = cc in ap (λ z. z ∷ []) same
 take_more (y ∷ ys) (suc i) x e = ap (λ zs. y ∷ zs) (take_more ys i x e)
 
+interned_more : (text : List ℕ) (xs : List Token) (x : Token) (names : List (List ℕ))
+    → interned text (xs ++ x ∷ []) names ≡ with_word x.kind (bytes_in text x.span) (interned text xs names)
+interned_more text [] x names = refl
+interned_more text (y ∷ ys) x names = interned_more text ys x (with_word y.kind (bytes_in text y.span) names)
+
 -- i tokens are seen
 pub record Reading (text : List ℕ) (tokens : List Token) (i : ℕ) (toks : List Tok) (old names : List (List ℕ)) : Type 0 where
   pub seen : AreToks text names (take i tokens) toks
+  pub table : names ≡ interned text (take i tokens) old
   pub kept : IsFront old names
   pub distinct : AreDistinct old → AreDistinct names
   pub grown : length names ≤ length old + i
 
 pub reading_more : (text : List ℕ) (tokens : List Token) (i : ℕ) (toks : List Tok) (old names new : List (List ℕ)) (x : Token) (t : Tok)
-    → Reading text tokens i toks old names → slice_get tokens i ≡ Some x → IsTok text new x t → IsFront names new → (AreDistinct names → AreDistinct new)
+    → Reading text tokens i toks old names → slice_get tokens i ≡ Some x → IsTok text new x t
+    → new ≡ with_word x.kind (bytes_in text x.span) names → IsFront names new → (AreDistinct names → AreDistinct new)
     → length new ≤ length names + 1 → Reading text tokens (i + 1) (toks ++ t ∷ []) old new
-reading_more text tokens i toks old names new x t r e is front distinct grown =
+reading_more text tokens i toks old names new x t r e is table front distinct grown =
     let before = toks_kept text names new front (take i tokens) toks r.seen in
     let room = r.grown in
     record {
       seen = rw (add-one, take_more tokens i x e) (one_more text new (take i tokens) toks x t before is);
+      table = table ∙ ap (λ ns. with_word x.kind (bytes_in text x.span) ns) r.table ∙ sym (rw (add-one, take_more tokens i x e) (interned_more text (take i tokens) x old));
       kept = front_of_front old names new r.kept front;
       distinct = λ d. distinct (r.distinct d);
       grown = omega arith;

@@ -1,4 +1,5 @@
 pub mod Sorts
+pub mod Interned
 pub mod Reads
 pub mod Heights
 pub mod Expressions

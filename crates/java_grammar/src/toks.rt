@@ -5,6 +5,7 @@ ghost use Rattle.std.specs.Str.{IsUtf8};
 ghost use Rattle.java_tree.specs.Names.{IsFront, AreDistinct};
 ghost use Rattle.java_lexer.specs.Lexing.{Lexes};
 ghost use Rattle.java_grammar.specs.Sorts.{bytes_in, HasName, IsTok, AreToks};
+ghost use Rattle.java_grammar.specs.Interned.{with_word, interned};
 
 use crate::sorts::sort_of;
 use crate::token::Tok;
@@ -28,6 +29,7 @@ fn text_of(text: &[u8], span: Span) -> &str
 fn name_of(names: &mut Names, kind: Kind, word: &str) -> Result<u32, NoMemory>
     requires { length names.old < 2 ^ 32 - 1 }
     ensures name { IfOk result (λ n. HasName names.new kind word.now n) }
+    ensures table { IfOk result (λ n. names.new ≡ with_word kind word.now names.old) }
     ensures kept { IsFront names.old names.new }
     ensures distinct { AreDistinct names.old → AreDistinct names.new }
     ensures grown { length names.new ≤ length names.old + 1 }
@@ -46,6 +48,7 @@ fn tok_of(text: &[u8], token: Token, names: &mut Names) -> Result<Tok, NoMemory>
     requires utf8 { IsUtf8 (bytes_in text.now token.span) }
     requires room { length names.old < 2 ^ 32 - 1 }
     ensures tok { IfOk result (λ t. IsTok text.now names.new token t) }
+    ensures table { IfOk result (λ t. names.new ≡ with_word token.kind (bytes_in text.now token.span) names.old) }
     ensures kept { IsFront names.old names.new }
     ensures distinct { AreDistinct names.old → AreDistinct names.new }
     ensures grown { length names.new ≤ length names.old + 1 }
@@ -57,7 +60,7 @@ fn tok_of(text: &[u8], token: Token, names: &mut Names) -> Result<Tok, NoMemory>
     Ok(Tok { sort, name, span })
 }
 
-/// The tokens of a text, as the grammar sees them. Identifiers are put into the table of names.
+/// The tokens of a text, as the grammar sees them. Identifiers are put into the table of names, in order of first sight.
 pub fn toks_of(
     alloc: Global,
     text: &[u8],
@@ -67,6 +70,7 @@ pub fn toks_of(
     requires lexed { Lexes text.now tokens.now }
     requires room { length names.old + length tokens.now < 2 ^ 32 - 1 }
     ensures toks { IfOk result (λ ts. AreToks text.now names.new tokens.now ts) }
+    ensures table { IfOk result (λ ts. names.new ≡ interned text.now tokens.now names.old) }
     ensures kept { IsFront names.old names.new }
     ensures distinct { AreDistinct names.old → AreDistinct names.new }
     ensures grown { length names.new ≤ length names.old + length tokens.now }

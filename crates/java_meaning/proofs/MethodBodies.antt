@@ -9,15 +9,11 @@ use Rattle.java_tree.specs.declared.tree.Node.{Node}
 use Rattle.java_tree.specs.declared.tree.Name.{Name}
 use Rattle.java_tree.specs.Plain as t
 use Rattle.java_tree.specs.Plain.{Expr, Param, Stmt, Stmts, Member, TypeDecl, SourceUnit}
-use Rattle.small_lexer.specs.declared.token.Tok.{Tok}
-use Rattle.small_lexer.specs.declared.token.Sort.TheVariants as s
-use Rattle.small_lexer.specs.Reads.{sort_in, text_in, sort_at, text_at}
-use Rattle.small_lexer.specs.Pieces.{is_in_text, AllAre}
-use Rattle.small_lexer.specs.Lexing.{Lexes}
-use Rattle.small_lexer.proofs.WordLemmas.{text_bytes}
-use Rattle.small_parser.specs.Nodes.{member_nodes, decl_nodes}
-use Rattle.small_parser.specs.Grammar.{IsCalled, IsPrint, ArePrints, IsMethod, AreMethods, AreTypes, IsClass, Spells}
-use Rattle.small_parser.specs.Grammar as grammar
+use Rattle.java_grammar.specs.declared.token.Tok.{Tok}
+use Rattle.small_programs.specs.Texts.{is_in_text, AllAre}
+use Rattle.small_programs.specs.Nodes.{member_nodes, decl_nodes}
+use Rattle.small_programs.specs.Grammar.{IsPrint, ArePrints, IsMethod, AreMethods, AreTypes, IsClass, Spells}
+use Rattle.small_programs.specs.Grammar as grammar
 use Rattle.class_world.specs.declared.world.MethodInfo.{MethodInfo}
 use Rattle.class_world.specs.declared.world.JavaType.{JavaType}
 use Rattle.class_world.specs.declared.world.JavaType.TheVariants as ty
@@ -37,23 +33,6 @@ first_holds false b c d e h = absurd (cc h)
 all_low : (xs : List ℕ) → AllAre is_in_text xs → list_all (λ c. nat_lt c 128) xs ≡ true
 all_low [] h = refl
 all_low (x ∷ xs) h = and_from (nat_lt x 128) (list_all (λ c. nat_lt c 128) xs) (first_holds (nat_lt x 128) (not (x == 34)) (not (x == 92)) (not (x == 10)) (not (x == 13)) h.0) (all_low xs h.1)
-
-token_at : (ts : List Tok) (i : ℕ) → sort_at ts i ≡ s.Text → (t : Tok) × (slice_get ts i ≡ Some t) × (t.sort ≡ s.Text) × (text_at ts i ≡ t.text)
-unfolding sort_at text_at
-token_at ts i e = by_token (slice_get ts i) refl
-  where
-    by_token : (o : Option Tok) → slice_get ts i ≡ o → (t : Tok) × (slice_get ts i ≡ Some t) × (t.sort ≡ s.Text) × (text_in (slice_get ts i) ≡ t.text)
-    by_token None f = absurd (let none : s.End ≡ s.Text = sym (ap sort_in f) ∙ e in cc)
-    by_token (Some t) f = (t, f, sym (ap sort_in f) ∙ e, ap text_in f)
-
--- a literal of the file has bytes below 128
-literal_low : (names : List (List ℕ)) (text : List ℕ) (ts : List Tok) (i : ℕ) (x : List ℕ) → Lexes names text ts → sort_at ts i ≡ s.Text → IsCalled names ts i x → list_all (λ c. nat_lt c 128) x ≡ true
-literal_low names text ts i x lexes sort called =
-    let at = token_at ts i sort in
-    let has = text_bytes names text ts i at.0 lexes at.1 at.2 in
-    let there : slice_get names (text_at ts i) ≡ Some has.0 = ap (λ k. slice_get names k) at.3 ∙ has.1 in
-    let same : has.0 ≡ x = same_Some has.0 x (sym there ∙ called) in
-    subst (λ xs. list_all (λ c. nat_lt c 128) xs ≡ true) same (all_low has.0 has.2)
 
 -- ---- what the methods do
 
@@ -101,19 +80,17 @@ Types a n x = a.type_at n ≡ Some x
 abbrev Unused : Annotation → ℕ → Type 0
 Unused a n = a.use_at n ≡ None
 
-module _ (names : List (List ℕ)) (text : List ℕ) (ts : List Tok) (lexes : Lexes names text ts) (a : Annotation) where
-  print_does : (xs : Stmts) (x : Stmt) (n i : ℕ) (p : IsPrint names ts n x i) → IsPrintTyped (Types a) (Unused a) x → Prints a xs → Prints a (t.Then x xs)
+module _ (names : List (List ℕ)) (text : List ℕ) (ts : List Tok) (a : Annotation) where
+  print_does : (xs : Stmts) (x : Stmt) (n i : ℕ) (p : IsPrint names text ts n x i) → IsPrintTyped (Types a) (Unused a) x → Prints a xs → Prints a (t.Then x xs)
   print_does xs x n i p h rest =
       let say = subst (IsPrintTyped (Types a) (Unused a)) p.tree h in
-      let place : i + 1 + 1 + 1 + 1 + 1 + 1 ≡ i + 6 = omega arith in
-      let sort : sort_at ts (i + 6) ≡ s.Text = subst (λ k. sort_at ts k ≡ s.Text) place p.stand.1.1.1.1.1.1.0 in
-      subst (λ x. Prints a (t.Then x xs)) (sym p.tree) (next say.0 say.3 (literal_low names text ts (i + 6) p.text lexes sort p.literal) rest)
+      subst (λ x. Prints a (t.Then x xs)) (sym p.tree) (next say.0 say.3 (all_low p.printed p.literal.1) rest)
 
-  prints_do : (xs : Stmts) (n i j : ℕ) → ArePrints names ts n xs i j → ArePrintsTyped (Types a) (Unused a) xs → Prints a xs
+  prints_do : (xs : Stmts) (n i j : ℕ) → ArePrints names text ts n xs i j → ArePrintsTyped (Types a) (Unused a) xs → Prints a xs
   prints_do t.Last n i j p h = last
   prints_do (t.Then x xs) n i j (p, ps) (h, hs) = print_does xs x n i p h (prints_do xs (n + 5) (i + 9) j ps hs)
 
-  methods_do : (u : SourceUnit) (c : ℕ) (ms : List Member) (n i j : ℕ) → AreMethods names ts n ms i j → AreBodiesTyped (Types a) (Unused a) ms → AllDo a (map (method_info u c) ms) (map member_body ms)
+  methods_do : (u : SourceUnit) (c : ℕ) (ms : List Member) (n i j : ℕ) → AreMethods names text ts n ms i j → AreBodiesTyped (Types a) (Unused a) ms → AllDo a (map (method_info u c) ms) (map member_body ms)
   methods_do u c [] n i j p h = none_do a
   methods_do u c (x ∷ xs) n i j (m, p, ps) h =
       let both = subst (λ (x : Member). AreBodiesTyped (Types a) (Unused a) (x ∷ xs)) p.tree h in
@@ -121,7 +98,7 @@ module _ (names : List (List ℕ)) (text : List ℕ) (ts : List Tok) (lexes : Le
       subst (λ (x : Member). AllDo a (map (method_info u c) (x ∷ xs)) (map member_body (x ∷ xs))) (sym p.tree)
       (more_do a _ _ _ _ (prints refl (prints_do p.body (n + 2) (i + 5) p.end p.prints both.0)) rest)
 
-  class_does : (u : SourceUnit) (c : ℕ) (d : TypeDecl) (n i j : ℕ) → IsClass names ts n d i j → AreBodiesTyped (Types a) (Unused a) d.members → AllDo a (map (method_info u c) d.members) (map member_body d.members)
+  class_does : (u : SourceUnit) (c : ℕ) (d : TypeDecl) (n i j : ℕ) → IsClass names text ts n d i j → AreBodiesTyped (Types a) (Unused a) d.members → AllDo a (map (method_info u c) d.members) (map member_body d.members)
   class_does u c d n i j (inl p) h =
       let same = ap (λ (d : TypeDecl). d.members) p.tree in
       subst (λ ms. AllDo a (map (method_info u c) ms) (map member_body ms)) (sym same) (methods_do u c p.members (n + 1) (i + 3) p.end p.methods (subst (AreBodiesTyped (Types a) (Unused a)) same h))
@@ -129,11 +106,11 @@ module _ (names : List (List ℕ)) (text : List ℕ) (ts : List Tok) (lexes : Le
       let same = ap (λ (d : TypeDecl). d.members) p.tree in
       subst (λ ms. AllDo a (map (method_info u c) ms) (map member_body ms)) (sym same) (methods_do u c p.members (n + 2) (i + 5) p.end p.methods (subst (AreBodiesTyped (Types a) (Unused a)) same h))
 
-  types_do : (u : SourceUnit) (c : ℕ) (ds : List TypeDecl) (n i j : ℕ) → AreTypes names ts n ds i j → AreClassesTyped (Types a) (Unused a) (before_last ds) → AllDo a (methods_of u c ds) (bodies_from c ds)
+  types_do : (u : SourceUnit) (c : ℕ) (ds : List TypeDecl) (n i j : ℕ) → AreTypes names text ts n ds i j → AreClassesTyped (Types a) (Unused a) (before_last ds) → AllDo a (methods_of u c ds) (bodies_from c ds)
   types_do u c [] n i j p h = absurd p
   types_do u c (d ∷ []) n i j p h =
       let same = ap (λ (d : TypeDecl). d.members) p.tree in
-      let main : Member = grammar.main_method names ts (n + 1) (i + 3) (p.end + 1) p.body in
+      let main : Member = grammar.main_method names text ts (n + 1) (i + 3) (p.end + 1) p.body in
       let own : AllDo a (map (method_info u c) d.members) (map member_body d.members) =
       subst (λ ms. AllDo a (map (method_info u c) ms) (map member_body ms)) (sym same) (more_do a (method_info u c main) [] (member_body main) [] (runs refl (λ e. absurd (cc e))) (none_do a)) in
       both_do a (method_info u c) d.members (default_constructor c d.name d.mods ∷ []) (Default c ∷ []) own (more_do a (default_constructor c d.name d.mods) [] (Default c) [] (constructs refl) (none_do a))
@@ -142,10 +119,10 @@ module _ (names : List (List ℕ)) (text : List ℕ) (ts : List Tok) (lexes : Le
       (more_do a (default_constructor c d.name d.mods) (methods_of u (c + 1) (e ∷ ds)) (Default c) (bodies_from (c + 1) (e ∷ ds)) (constructs refl) (types_do u (c + 1) (e ∷ ds) (n + decl_nodes d) m j ps hs))
 
   -- each method of the world has a body
-  pub all_do : (u : SourceUnit) → Spells names ts u → AreClassesTyped (Types a) (Unused a) (before_last u.types) → (k : ℕ) (info : MethodInfo) → slice_get (world_of u).methods k ≡ Some info → HasBody a info (bodies u) k
+  pub all_do : (u : SourceUnit) → Spells names text ts u → AreClassesTyped (Types a) (Unused a) (before_last u.types) → (k : ℕ) (info : MethodInfo) → slice_get (world_of u).methods k ≡ Some info → HasBody a info (bodies u) k
   all_do u spells h =
       let same : u.types ≡ spells.types = ap (λ (u : SourceUnit). u.types) spells.tree in
-      let are = subst (λ ds. AreTypes names ts 1 ds 0 (length ts)) (sym same) spells.are in
+      let are = subst (λ ds. AreTypes names text ts 1 ds 0 (length ts)) (sym same) spells.are in
       more_do a object_constructor (methods_of u 16 u.types) BuiltIn (bodies_from 16 u.types) (nothing refl refl) (types_do u 16 u.types 1 0 (length ts) are h)
 
 -- ---- main's body
@@ -159,7 +136,7 @@ behind (x ∷ xs) ys k =
     let e : suc (length xs) + k ≡ suc (length xs + k) = omega arith in
     ap (λ k. slice_get (x ∷ (xs ++ ys)) k) e ∙ behind xs ys k
 
-module _ (names : List (List ℕ)) (ts : List Tok) where
+module _ (names : List (List ℕ)) (text : List ℕ) (ts : List Tok) where
   abbrev main_in : List TypeDecl → Option t.MethodDecl
   main_in ds = option_and_then (λ d. first_method d.members) (last_type ds)
 
@@ -168,7 +145,7 @@ module _ (names : List (List ℕ)) (ts : List Tok) where
     number : first_of_last m ds ≡ m + place
     there : slice_get (bodies_from c ds) place ≡ Some (Declared (params_of (main_in ds)) (body_of (main_in ds)))
 
-  main_there : (ds : List TypeDecl) (n i j m c : ℕ) → AreTypes names ts n ds i j → HasMain ds m c
+  main_there : (ds : List TypeDecl) (n i j m c : ℕ) → AreTypes names text ts n ds i j → HasMain ds m c
   main_there [] n i j m c p = absurd p
   main_there (d ∷ []) n i j m c p = subst (λ d. HasMain (d ∷ []) m c) (sym p.tree) (record { place = 0; number = omega arith; there = refl })
   main_there (d ∷ e ∷ ds) n i j m c (q, p, ps) =
@@ -180,10 +157,10 @@ module _ (names : List (List ℕ)) (ts : List Tok) where
       record { place = length own + suc r.place; number = omega (arith, number, count); there = behind own (Default c ∷ rest) (suc r.place) ∙ r.there }
 
   -- the body with main's number is main's
-  pub main_body : (u : SourceUnit) → Spells names ts u → slice_get (bodies u) (main_number u) ≡ Some (Declared (params_of (main_method u)) (main_steps u))
+  pub main_body : (u : SourceUnit) → Spells names text ts u → slice_get (bodies u) (main_number u) ≡ Some (Declared (params_of (main_method u)) (main_steps u))
   main_body u spells =
       let same : u.types ≡ spells.types = ap (λ (u : SourceUnit). u.types) spells.tree in
-      let are = subst (λ ds. AreTypes names ts 1 ds 0 (length ts)) (sym same) spells.are in
+      let are = subst (λ ds. AreTypes names text ts 1 ds 0 (length ts)) (sym same) spells.are in
       let r = main_there u.types 1 0 (length ts) 1 16 are in
       let number : main_number u ≡ suc r.place = r.number ∙ omega arith in
       ap (λ k. slice_get (bodies u) k) number ∙ r.there

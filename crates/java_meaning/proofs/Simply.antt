@@ -4,10 +4,9 @@ use Rattle.std.specs.Prelude.{unwrap_or}
 use Rattle.java_tree.specs.declared.tree.Name.{Name}
 use Rattle.java_tree.specs.Plain as t
 use Rattle.java_tree.specs.Plain.{TypeExpr, Expr, Param, Stmt, Stmts, SourceUnit}
-use Rattle.small_lexer.specs.declared.token.Tok.{Tok}
-use Rattle.small_lexer.specs.Lexing.{Lexes}
-use Rattle.small_parser.specs.Nodes.{stmt_nodes}
-use Rattle.small_parser.specs.Grammar.{AreSteps, IsStep, Spells, local_at, assign_at, call_at, name_at, type_at, node_of}
+use Rattle.java_grammar.specs.declared.token.Tok.{Tok}
+use Rattle.small_programs.specs.Nodes.{stmt_nodes}
+use Rattle.small_programs.specs.Grammar.{AreSteps, IsStep, Spells, local_at, assign_at, call_at, name_at, type_at, node_of}
 use Rattle.class_world.specs.declared.world.World.{World}
 use Rattle.class_world.specs.declared.world.MethodInfo.{MethodInfo}
 use Rattle.class_world.specs.declared.world.JavaType.TheVariants as ty
@@ -57,7 +56,7 @@ left_meets frame (Cut r) (Gives x s) h = h
 left_meets frame (Cut r) (Threw k s) h = h
 left_meets frame (Cut r) (Bound s) h = h
 
-module _ (names : List (List ℕ)) (ts : List Tok) (u : SourceUnit) (tree : IsClassTree (world_of u)) (apart : AreApart (world_of u)) (none : NoConstructors u.types)
+module _ (names : List (List ℕ)) (text : List ℕ) (ts : List Tok) (u : SourceUnit) (tree : IsClassTree (world_of u)) (apart : AreApart (world_of u)) (none : NoConstructors u.types)
     (pick : ℕ → Name → Option ℕ) (picks : ArePicks (world_of u) pick)
     (g : Program) (same : g.unit ≡ u) (worlds : g.world ≡ world_of u) (lookups : AreLookups (world_of u) g.find)
     (all : (k : ℕ) (info : MethodInfo) → slice_get (world_of u).methods k ≡ Some info → HasBody g.notes info (bodies u) k) where
@@ -120,61 +119,61 @@ module _ (names : List (List ℕ)) (ts : List Tok) (u : SourceUnit) (tree : IsCl
 
   -- A x = ..;
   local_meets : (n i end d : ℕ) (init : Expr) (ls : List Local) (hs : List Holds) (s : State) (r : Ran) (x : Thing) (xs : Stmts)
-      → Says names ts u (world_of u) g.notes ls (local_at names ts n i end init) → Fits (world_of u) s.heap s.frame n ls hs → slice_get s.heap 0 ≡ Some x → r.left ≤ d
-      → Behind d (n + stmt_nodes (local_at names ts n i end init)) (scope_after u ls (local_at names ts n i end init)) xs
-      → Meets (steps_run u (world_of u) pick (t.Then (local_at names ts n i end init) xs) hs r) (all_statements (place g d) (t.Then (local_at names ts n i end init) xs) (put s r))
+      → Says names text ts u (world_of u) g.notes ls (local_at names text ts n i end init) → Fits (world_of u) s.heap s.frame n ls hs → slice_get s.heap 0 ≡ Some x → r.left ≤ d
+      → Behind d (n + stmt_nodes (local_at names text ts n i end init)) (scope_after u ls (local_at names text ts n i end init)) xs
+      → Meets (steps_run u (world_of u) pick (t.Then (local_at names text ts n i end init) xs) hs r) (all_statements (place g d) (t.Then (local_at names text ts n i end init) xs) (put s r))
   local_meets n i end d init ls hs s r x xs says fits there le next =
       let w : World = world_of u in
-      let h = local_says (Typed g.notes) (Used g.notes) u w ls names ts n i end init says in
-      let local : Local = local_of u (type_at names ts (n + 1) i 0) (record { node = node_of names ts (n + 2) (i + 1) end; name = name_at names ts (i + 1); dims = 0; init = Some init }) in
+      let h = local_says (Typed g.notes) (Used g.notes) u w ls names text ts n i end init says in
+      let local : Local = local_of u (type_at names text ts (n + 1) i 0) (record { node = node_of names text ts (n + 2) (i + 1) end; name = name_at names text ts (i + 1); dims = 0; init = Some init }) in
       met _ _ _ _ refl (then_then (value (place g d) init (put s r)) (λ a s. Gives tt (record s { frame = record { node = n + 2; value = a } ∷ s.frame })) (λ u s. all_statements (place g d) xs s))
-      (stores_meet init (name_at names ts (i + 1)) xs (n + 2) n (n + stmt_nodes (local_at names ts n i end init)) d h.right ls (local ∷ ls) hs s r x h.value fits there le
-      (λ k q heap object under now. fits_declared w heap s.frame n (n + stmt_nodes (local_at names ts n i end init)) hs (name_at names ts (i + 1)) (n + 2) k q object ls local h.left refl refl
+      (stores_meet init (name_at names text ts (i + 1)) xs (n + 2) n (n + stmt_nodes (local_at names text ts n i end init)) d h.right ls (local ∷ ls) hs s r x h.value fits there le
+      (λ k q heap object under now. fits_declared w heap s.frame n (n + stmt_nodes (local_at names text ts n i end init)) hs (name_at names text ts (i + 1)) (n + 2) k q object ls local h.left refl refl
       (ap (λ o. ty.Class (unwrap_or o 0) []) h.left_is) (omega arith) (omega arith) (through under h.fits) now)
       next)
 
   -- x = ..;
   assign_meets : (n i end d : ℕ) (from : Expr) (ls : List Local) (hs : List Holds) (s : State) (r : Ran) (x : Thing) (xs : Stmts)
-      → Says names ts u (world_of u) g.notes ls (assign_at names ts n i end from) → Fits (world_of u) s.heap s.frame n ls hs → slice_get s.heap 0 ≡ Some x → r.left ≤ d
-      → Behind d (n + stmt_nodes (assign_at names ts n i end from)) (scope_after u ls (assign_at names ts n i end from)) xs
-      → Meets (steps_run u (world_of u) pick (t.Then (assign_at names ts n i end from) xs) hs r) (all_statements (place g d) (t.Then (assign_at names ts n i end from) xs) (put s r))
+      → Says names text ts u (world_of u) g.notes ls (assign_at names text ts n i end from) → Fits (world_of u) s.heap s.frame n ls hs → slice_get s.heap 0 ≡ Some x → r.left ≤ d
+      → Behind d (n + stmt_nodes (assign_at names text ts n i end from)) (scope_after u ls (assign_at names text ts n i end from)) xs
+      → Meets (steps_run u (world_of u) pick (t.Then (assign_at names text ts n i end from) xs) hs r) (all_statements (place g d) (t.Then (assign_at names text ts n i end from) xs) (put s r))
   assign_meets n i end d from ls hs s r x xs says fits there le next =
       let w : World = world_of u in
-      let h = assign_says (Typed g.notes) (Used g.notes) u w ls names ts n i end from says in
+      let h = assign_says (Typed g.notes) (Used g.notes) u w ls names text ts n i end from says in
       let node : ℕ = h.to.local.node in
       let p : Place = place g d in
-      let runs : all_statements p (t.Then (assign_at names ts n i end from) xs) (put s r)
+      let runs : all_statements p (t.Then (assign_at names text ts n i end from) xs) (put s r)
       ≡ and_then (value p from (put s r)) (λ a s. all_statements p xs (record s { frame = record { node = node; value = a } ∷ s.frame })) =
       ap (λ o. and_then (and_then (with_some o (put s r) (λ u. and_then (value p from (put s r)) (λ a s. stored u a s))) (λ a s. Gives tt s)) (λ u s. all_statements p xs s)) h.to.uses
       ∙ ap (λ o. and_then o (λ u s. all_statements p xs s)) (then_then (value p from (put s r)) (λ a s. stored (use_of.Local node) a s) (λ a s. Gives tt s))
       ∙ then_then (value p from (put s r)) (λ a s. Gives tt (record s { frame = record { node = node; value = a } ∷ s.frame })) (λ u s. all_statements p xs s) in
       met _ _ _ _ refl runs
-      (stores_meet from (name_at names ts i) xs node n (n + stmt_nodes (assign_at names ts n i end from)) d h.right ls ls hs s r x h.value fits there le
-      (λ k q heap object under now. fits_assigned w heap s.frame n (n + stmt_nodes (assign_at names ts n i end from)) hs (name_at names ts i) node k q object ls h.to.local h.left h.to.found h.to.same refl
+      (stores_meet from (name_at names text ts i) xs node n (n + stmt_nodes (assign_at names text ts n i end from)) d h.right ls ls hs s r x h.value fits there le
+      (λ k q heap object under now. fits_assigned w heap s.frame n (n + stmt_nodes (assign_at names text ts n i end from)) hs (name_at names text ts i) node k q object ls h.to.local h.left h.to.found h.to.same refl
       (omega arith) (through under h.fits) now)
       next)
 
   -- x.m();
-  calls_meet : (n i d : ℕ) (ls : List Local) (hs : List Holds) (s : State) (r : Ran) (x : Thing) (xs : Stmts) → Says names ts u (world_of u) g.notes ls (call_at names ts n i)
+  calls_meet : (n i d : ℕ) (ls : List Local) (hs : List Holds) (s : State) (r : Ran) (x : Thing) (xs : Stmts) → Says names text ts u (world_of u) g.notes ls (call_at names text ts n i)
       → Fits (world_of u) s.heap s.frame n ls hs → slice_get s.heap 0 ≡ Some x → r.left ≤ d
-      → Behind d (n + stmt_nodes (call_at names ts n i)) (scope_after u ls (call_at names ts n i)) xs
-      → Meets (steps_run u (world_of u) pick (t.Then (call_at names ts n i) xs) hs r) (all_statements (place g d) (t.Then (call_at names ts n i) xs) (put s r))
+      → Behind d (n + stmt_nodes (call_at names text ts n i)) (scope_after u ls (call_at names text ts n i)) xs
+      → Meets (steps_run u (world_of u) pick (t.Then (call_at names text ts n i) xs) hs r) (all_statements (place g d) (t.Then (call_at names text ts n i) xs) (put s r))
   calls_meet n i d ls hs s r x xs says fits there le next =
       let w : World = world_of u in
-      let h = call_says (Typed g.notes) (Used g.notes) u w ls names ts n i says in
-      let object = fits.objects (name_at names ts i) h.local h.owner h.found h.same in
-      let m : Name = name_at names ts (i + 2) in
+      let h = call_says (Typed g.notes) (Used g.notes) u w ls names text ts n i says in
+      let object = fits.objects (name_at names text ts i) h.local h.owner h.found h.same in
+      let m : Name = name_at names text ts (i + 2) in
       let e = entered w tree apart pick g.find picks lookups object.class h.owner m h.method object.fits h.chosen in
       let does = chosen_prints u g.notes all object.class m e.number e.chosen in
       let p : Place = place g d in
       let o : Value = v.Ref object.number in
       let rest : Ran → Course = λ r. steps_run u w pick xs hs r in
-      let course : steps_run u w pick (t.Then (call_at names ts n i) xs) hs r ≡ enters e.number r (λ r. rest (record r { out = r.out ++ printed does.body })) =
+      let course : steps_run u w pick (t.Then (call_at names text ts n i) xs) hs r ≡ enters e.number r (λ r. rest (record r { out = r.out ++ printed does.body })) =
       ap (λ o. goes_with o r (λ c. goes_with (pick c m) r (λ j. enters j r (λ r. rest (record r { out = r.out ++ lines u j }))))) object.known
       ∙ ap (λ o. goes_with o r (λ j. enters j r (λ r. rest (record r { out = r.out ++ lines u j })))) e.picked
       ∙ ap (λ b. enters e.number r (λ r. rest (record r { out = r.out ++ body_lines b }))) {y = Some (Declared [] does.body)} does.there in
       let finish : Outcome (Unit {0}) → Outcome (Unit {0}) = λ o. and_then o (λ u s. all_statements p xs s) in
-      let runs : all_statements p (t.Then (call_at names ts n i) xs) (put s r) ≡ finish (enter g d e.number o [] (put s r)) =
+      let runs : all_statements p (t.Then (call_at names text ts n i) xs) (put s r) ≡ finish (enter g d e.number o [] (put s r)) =
       ap (λ o. finish (and_then (with_some o (put s r) (λ u. variable u (put s r))) (λ r s. invoked p (g.notes.use_at (n + 1)) r [] s))) h.uses_local
       ∙ ap (λ o. finish (and_then (with_some o (put s r) (λ a. Gives a (put s r))) (λ r s. invoked p (g.notes.use_at (n + 1)) r [] s))) object.holds
       ∙ ap (λ q. finish (invoked p q o [] (put s r))) h.uses
@@ -184,25 +183,25 @@ module _ (names : List (List ℕ)) (ts : List Tok) (u : SourceUnit) (tree : IsCl
       subst (λ (u : SourceUnit). slice_get (bodies u) e.number ≡ Some (Declared [] does.body)) (sym same) does.there in
       met _ _ _ _ course runs
       (call_meets g d e.number o s r x does.body le there in_unit does.prints (λ s. all_statements p xs s) rest
-      (λ ss r le. next hs (record s { strings = ss }) r x (later w s.heap s.frame n (n + stmt_nodes (call_at names ts n i)) ls hs (omega arith) fits) there le))
+      (λ ss r le. next hs (record s { strings = ss }) r x (later w s.heap s.frame n (n + stmt_nodes (call_at names text ts n i)) ls hs (omega arith) fits) there le))
 
-  one_meets : (y : Stmt) (xs : Stmts) (n i m d : ℕ) (ls : List Local) (hs : List Holds) (s : State) (r : Ran) (x : Thing) → IsStep names ts n y i m → Says names ts u (world_of u) g.notes ls y
+  one_meets : (y : Stmt) (xs : Stmts) (n i m d : ℕ) (ls : List Local) (hs : List Holds) (s : State) (r : Ran) (x : Thing) → IsStep names text ts n y i m → Says names text ts u (world_of u) g.notes ls y
       → Fits (world_of u) s.heap s.frame n ls hs → slice_get s.heap 0 ≡ Some x → r.left ≤ d → Behind d (n + stmt_nodes y) (scope_after u ls y) xs
       → Meets (steps_run u (world_of u) pick (t.Then y xs) hs r) (all_statements (place g d) (t.Then y xs) (put s r))
   one_meets y xs n i m d ls hs s r x (inl h) says fits there le next =
-      subst (λ y. Says names ts u (world_of u) g.notes ls y → Behind d (n + stmt_nodes y) (scope_after u ls y) xs
+      subst (λ y. Says names text ts u (world_of u) g.notes ls y → Behind d (n + stmt_nodes y) (scope_after u ls y) xs
       → Meets (steps_run u (world_of u) pick (t.Then y xs) hs r) (all_statements (place g d) (t.Then y xs) (put s r)))
       (sym h.tree) (λ says next. local_meets n i h.end d h.init ls hs s r x xs says fits there le next) says next
   one_meets y xs n i m d ls hs s r x (inr (inl h)) says fits there le next =
-      subst (λ y. Says names ts u (world_of u) g.notes ls y → Behind d (n + stmt_nodes y) (scope_after u ls y) xs
+      subst (λ y. Says names text ts u (world_of u) g.notes ls y → Behind d (n + stmt_nodes y) (scope_after u ls y) xs
       → Meets (steps_run u (world_of u) pick (t.Then y xs) hs r) (all_statements (place g d) (t.Then y xs) (put s r)))
       (sym h.tree) (λ says next. assign_meets n i h.end d h.from ls hs s r x xs says fits there le next) says next
   one_meets y xs n i m d ls hs s r x (inr (inr (stand, e, end))) says fits there le next =
-      subst (λ y. Says names ts u (world_of u) g.notes ls y → Behind d (n + stmt_nodes y) (scope_after u ls y) xs
+      subst (λ y. Says names text ts u (world_of u) g.notes ls y → Behind d (n + stmt_nodes y) (scope_after u ls y) xs
       → Meets (steps_run u (world_of u) pick (t.Then y xs) hs r) (all_statements (place g d) (t.Then y xs) (put s r)))
       (sym e) (λ says next. calls_meet n i d ls hs s r x xs says fits there le next) says next
 
-  steps_meet : (xs : Stmts) (n i j d : ℕ) (ls : List Local) → AreSteps names ts n xs i j → SayAll names ts u (world_of u) g.notes ls xs
+  steps_meet : (xs : Stmts) (n i j d : ℕ) (ls : List Local) → AreSteps names text ts n xs i j → SayAll names text ts u (world_of u) g.notes ls xs
       → (hs : List Holds) (s : State) (r : Ran) (x : Thing) → Fits (world_of u) s.heap s.frame n ls hs → slice_get s.heap 0 ≡ Some x → r.left ≤ d
       → Meets (steps_run u (world_of u) pick xs hs r) (all_statements (place g d) xs (put s r))
   steps_meet t.Last n i j d ls steps says hs s r x fits there le = (refl, refl, refl)
@@ -210,22 +209,22 @@ module _ (names : List (List ℕ)) (ts : List Tok) (u : SourceUnit) (tree : IsCl
       one_meets y ys n i m d ls hs s r x step say fits there le (λ hs s r x fits there le. steps_meet ys (n + stmt_nodes y) m j d (scope_after u ls y) steps says hs s r x fits there le)
 
 -- The run of a small program by the meaning is the run by its parts.
-pub simply : (names : List (List ℕ)) (text : List ℕ) (ts : List Tok) (u : SourceUnit) → Lexes names text ts → Spells names ts u → DeclarationsHold names u (world_of u) → StepsHold u (world_of u)
+pub simply : (names : List (List ℕ)) (text : List ℕ) (ts : List Tok) (u : SourceUnit) → Spells names text ts u → DeclarationsHold names u (world_of u) → StepsHold u (world_of u)
     → IsClassTree (world_of u) → (pick : ℕ → Name → Option ℕ) → ArePicks (world_of u) pick → (g : Program) → IsProgramOf u g → (args : List (List ℕ)) (n : ℕ)
     → Meets (simple_run u (world_of u) pick n) (run g args n)
-simply names text ts u lexes spells declared steps tree pick picks g of args n =
+simply names text ts u spells declared steps tree pick picks g of args n =
     let w : World = world_of u in
     let notes : Annotates g.notes u w = subst (λ w. Annotates g.notes u w) of.world of.annotates in
     let lookups : AreLookups w g.find = subst (λ w. AreLookups w g.find) of.world of.lookups in
-    let all = all_do names text ts lexes g.notes u spells notes.1 in
-    let main = steps_of_main names ts u spells in
-    let a = arguments_of names ts u spells in
+    let all = all_do names text ts g.notes u spells notes.1 in
+    let main = steps_of_main names text ts u spells in
+    let a = arguments_of names text ts u spells in
     let scope : List Local = params_in (Typed g.notes) (Used g.notes) u w (params_of (main_method u)) in
     let number : ℕ = main_number u in
     let body : slice_get (bodies g.unit) number ≡ Some (Declared (params_of (main_method u)) (main_steps u)) =
-    ap (λ (u : SourceUnit). slice_get (bodies u) number) of.unit ∙ main_body names ts u spells in
+    ap (λ (u : SourceUnit). slice_get (bodies u) number) of.unit ∙ main_body names text ts u spells in
     met _ _ _ _ refl (ap (λ (u : SourceUnit). enter g n (main_number u) v.Null (v.Ref 1 ∷ []) (start args n)) of.unit)
-    (by_bound n body (λ d s r heap le. steps_meet names ts u tree declared.apart (none_declared names ts u spells) pick picks g of.unit of.world lookups all
+    (by_bound n body (λ d s r heap le. steps_meet names text ts u tree declared.apart (none_declared names text ts u spells) pick picks g of.unit of.world lookups all
     (main_steps u) main.node main.from main.to d scope main.steps notes.0 [] s r (state.Object 3 [])
     (subst (λ ps. Fits w s.heap s.frame main.node (params_in (Typed g.notes) (Used g.notes) u w ps) []) (sym a.only) (at_first w s.heap s.frame main.node (record { name = a.param.name; node = a.param.node.id; ty = param_type u a.param }) a.item a.array)) heap le))
   where

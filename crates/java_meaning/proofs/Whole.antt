@@ -45,4 +45,4 @@ whole u d n is (Ok r) h = λ g of args.
     let rules = subst (λ (w : World). DeclarationsHold is.names u w) is.built.world is.built.holds in
     let steps = subst (λ (w : World). StepsHold u w) is.built.world is.steps in
     let picks = picks_exist (world_of u) tree rules.apart in
-    both r _ (run g args n) (h picks.0 picks.1) (simply is.names is.text is.toks u is.lexes is.spells rules steps tree picks.0 picks.1 g of args n)
+    both r _ (run g args n) (h picks.0 picks.1) (simply is.names is.text is.toks u is.spells rules steps tree picks.0 picks.1 g of args n)

@@ -6,9 +6,9 @@ use Rattle.java_tree.specs.declared.tree.Name.{Name}
 use Rattle.java_tree.specs.Plain as t
 use Rattle.java_tree.specs.Plain.{Stmts, Member, SourceUnit}
 use Rattle.java_tree.specs.View.{stmts_plain}
-use Rattle.small_lexer.specs.declared.token.Tok.{Tok}
-use Rattle.small_lexer.specs.Lexing.{Lexes}
-use Rattle.small_parser.specs.Grammar.{Spells}
+use Rattle.java_grammar.specs.declared.token.Tok.{Tok}
+use Rattle.small_programs.specs.Texts.{Lexes}
+use Rattle.small_programs.specs.Grammar.{Spells}
 use Rattle.java_typing.specs.Typing.{StepsHold}
 use Rattle.decl_table.specs.declared.build.Declared.{Declared}
 use Rattle.decl_table.specs.Built.{IsBuilt}
@@ -113,7 +113,7 @@ pub record IsChecked (u : SourceUnit) (d : Declared) : Type 0 where
   pub text : List ℕ
   pub toks : List Tok
   pub lexes : Lexes names text toks
-  pub spells : Spells names toks u
+  pub spells : Spells names text toks u
   pub steps : StepsHold u d.world
   pub built : IsBuilt names u d
 

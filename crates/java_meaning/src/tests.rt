@@ -5,9 +5,10 @@
 use crate::{End, Run, run_small};
 use check_decl::check_small;
 use decl_table::build_small;
+use java_lexer::lex;
+use java_parse_decl::parse_unit;
 use java_tree::Names;
-use small_lexer::lex;
-use small_parser::parse_small;
+use small_programs::is_small;
 use std::alloc::Global;
 use std::process::Abort;
 use std::test::Fail;
@@ -55,9 +56,10 @@ fn run_text(rt: &impl Abort, alloc: Global, text: &str, bound: u64) -> Result<Ru
     let mut names = Names::new(alloc)?;
     assert!(rt; names.len() < 100);
     assert!(rt; text.len() < 1000);
-    let toks = lex(alloc, text.as_bytes(), &mut names)?;
-    assert!(rt; toks.len() < 1000);
-    let unit = parse_small(alloc, toks.as_slice(), &names)?;
+    let tokens = lex(alloc, text.as_bytes())?;
+    assert!(rt; tokens.len() < 1000);
+    let unit = parse_unit(alloc, text.as_bytes(), tokens.as_slice(), 0, &mut names)?;
+    assert!(rt; is_small(text.as_bytes(), tokens.as_slice(), &unit, &names));
     let declared = build_small(alloc, &unit, &names)?;
     assert!(rt; check_small(alloc, &unit, &declared)?);
     Ok(run_small(alloc, &unit, &declared, bound)?)

@@ -47,14 +47,14 @@ part_step None g e use_it = absurd (cc)
 part_step (Some x) g e use_it = use_it x refl (cc)
 
 module _ (text : List ℕ) (ts : List Tok) where
-  types_fine : (d i : ℕ) (g : Part TypeExpr) → type_under text ts d i ≡ Some g → SpellsType text ts g.tree i g.next × (type_depth g.tree < d)
+  pub types_fine : (d i : ℕ) (g : Part TypeExpr) → type_under text ts d i ≡ Some g → SpellsType text ts g.tree i g.next × (type_depth g.tree < d)
   unfolding type_under
   types_fine d i g e =
       part_step (read_type ts d i) g e (λ x read same.
       let ok = type_fine text ts d i x read in
       subst (λ (y : Part TypeExpr). SpellsType text ts y.tree i y.next × (type_depth y.tree < d)) same (ok.spells, omega (arith, ok.deep, ok.low)))
 
-  exprs_fine : (d k : ℕ) → 2 ≤ k → (i : ℕ) (g : Part Expr) → expr_under text ts d k i ≡ Some g → Spells text ts k g.tree i g.next × (expr_depth g.tree < d)
+  pub exprs_fine : (d k : ℕ) → 2 ≤ k → (i : ℕ) (g : Part Expr) → expr_under text ts d k i ≡ Some g → Spells text ts k g.tree i g.next × (expr_depth g.tree < d)
   unfolding expr_under parse
   exprs_fine zero k least i g e = absurd (cc)
   exprs_fine (suc d) k least i g e =
@@ -62,17 +62,17 @@ module _ (text : List ℕ) (ts : List Tok) where
       let ok = expr_sound text ts k d i x least read in
       subst (λ (y : Part Expr). Spells text ts k y.tree i y.next × (expr_depth y.tree < suc d)) same (ok.0, omega (arith, ok.1, ok.2)))
 
-  types_again : (d : ℕ) (x : TypeExpr) (i j : ℕ) → SpellsType text ts x i j → type_depth x < d → sort_at ts j ≡ s.Word → type_under text ts d i ≡ got x j
+  pub types_again : (d : ℕ) (x : TypeExpr) (i j : ℕ) → SpellsType text ts x i j → type_depth x < d → sort_at ts j ≡ s.Word → type_under text ts d i ≡ got x j
   unfolding type_under
   types_again d x i j p low word = rw (type_again text ts d x i j low p (goes_on_not text ts j (λ e. rw word at e))) refl
 
-  scans : (x : TypeExpr) (i j : ℕ) → SpellsType text ts x i j → sort_at ts j ≡ s.Word → type_end ts i ≡ Some j
+  pub scans : (x : TypeExpr) (i j : ℕ) → SpellsType text ts x i j → sort_at ts j ≡ s.Word → type_end ts i ≡ Some j
   scans x i j p word = type_end_again text ts x i j p (λ e. rw word at e)
 
-  scanned : (i j : ℕ) → type_end ts i ≡ Some j → (x : TypeExpr) × SpellsType text ts x i j
+  pub scanned : (i j : ℕ) → type_end ts i ≡ Some j → (x : TypeExpr) × SpellsType text ts x i j
   scanned i j e = let r = type_end_fine text ts i j e in (r.tree, r.spells)
 
-  exprs_again : (d k : ℕ) → 2 ≤ k → k ≤ 15 → (e : Expr) (i j : ℕ) → Spells text ts k e i j → expr_depth e < d → EndsAt text ts (sort_at ts j) → expr_under text ts d k i ≡ got e j
+  pub exprs_again : (d k : ℕ) → 2 ≤ k → k ≤ 15 → (e : Expr) (i j : ℕ) → Spells text ts k e i j → expr_depth e < d → EndsAt text ts (sort_at ts j) → expr_under text ts d k i ≡ got e j
   unfolding expr_under parse
   exprs_again zero k least most e i j p low ends = absurd (omega arith)
   exprs_again (suc d) k least most e i j p low ends = rw (expr_complete text ts d k e i j least most (omega arith) p ends) refl

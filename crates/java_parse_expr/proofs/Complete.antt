@@ -112,7 +112,7 @@ module _ (text : List ℕ) (ts : List Tok)
       by_sort _ e = refl
 
   -- brackets end there
-  no_pair : (i : ℕ) → (sort_at ts i ≡ s.Assign None) ⊎ EndsAt text ts (sort_at ts i) → pair_end ts i ≡ None
+  pub no_pair : (i : ℕ) → (sort_at ts i ≡ s.Assign None) ⊎ EndsAt text ts (sort_at ts i) → pair_end ts i ≡ None
   no_pair i (inl e) = (closed_at ts i (s.Assign None) e (λ e. cc) (λ e. cc) (λ e. cc)).no_pair
   no_pair i (inr e) = by_sort (sort_at ts i) refl e
     where
@@ -126,7 +126,7 @@ module _ (text : List ℕ) (ts : List Tok)
       by_sort (s.Mark m.Colon) is e = (closed_at ts i (s.Mark m.Colon) is (λ e. cc) (λ e. cc) (λ e. cc)).no_pair
       by_sort _ is e = absurd e
 
-  final_again : (f : Bool) (i a : ℕ) → IsFinal text ts f i a → type_begin (sort_at ts a) ≡ true → (is_keyword ts kw.Final i ≡ f) × (after_final text ts i ≡ a)
+  pub final_again : (f : Bool) (i a : ℕ) → IsFinal text ts f i a → type_begin (sort_at ts a) ≡ true → (is_keyword ts kw.Final i ≡ f) × (after_final text ts i ≡ a)
   unfolding after_final
   final_again true i a (is, next) ty = (is_keyword_has ts kw.Final i is, rw (after_keyword_has ts kw.Final i is, next) refl)
   final_again false i a next ty =
@@ -208,7 +208,7 @@ module _ (text : List ℕ) (ts : List Tok)
       let v = vars_rest d y ys (a + 1) j r (omega arith) semi in
       (a, (p, omega arith, rw comma tt), (comma, v.0, v.1, v.2))
 
-  vars_again : (d : ℕ) (xs : List Var) (i j : ℕ) → AreVars text ts xs i j → below_vars xs ≤ d → sort_at ts j ≡ s.Mark m.Semicolon → vars text ts d i ≡ got xs j
+  pub vars_again : (d : ℕ) (xs : List Var) (i j : ℕ) → AreVars text ts xs i j → below_vars xs ≤ d → sort_at ts j ≡ s.Mark m.Semicolon → vars text ts d i ≡ got xs j
   unfolding vars IsVarBelow
   vars_again d [] i j p low semi = absurd p
   vars_again d (x ∷ xs) i j p low semi =
@@ -217,7 +217,7 @@ module _ (text : List ℕ) (ts : List Tok)
       list_again text ts (IsVarBelow d) (var text ts d) (var_again d) (λ x i j p. var_on x i j p.0) x xs i v.0 j v.1 v.2
       (λ is. differ j (s.Mark m.Semicolon) (s.Mark m.Comma) semi is (λ e. cc)) (omega (arith, here))
 
-  vars_word : (xs : List Var) (i j : ℕ) → AreVars text ts xs i j → sort_at ts i ≡ s.Word
+  pub vars_word : (xs : List Var) (i j : ℕ) → AreVars text ts xs i j → sort_at ts i ≡ s.Word
   vars_word [] i j p = absurd p
   vars_word (x ∷ []) i j p = let id = p.name in id.0
   vars_word (x ∷ y ∷ ys) i j p = let v = p.1 in let id = v.name in id.0

@@ -8,3 +8,4 @@ pub mod Sound
 pub mod Complete
 pub mod Within
 pub mod Answered
+pub mod Capped

@@ -146,7 +146,7 @@ module _ (text : List ℕ) (ts : List Tok)
       let v = vars_are d y ys (a + 1) b j q r in
       ((a, p.0, comma, v.0), omega (arith, p.1, v.1))
 
-  vars_fine : (d i : ℕ) (g : Part (List Var)) → 0 < d → vars text ts d i ≡ Some g → AreVars text ts g.tree i g.next × (below_vars g.tree ≤ d)
+  pub vars_fine : (d i : ℕ) (g : Part (List Var)) → 0 < d → vars text ts d i ≡ Some g → AreVars text ts g.tree i g.next × (below_vars g.tree ≤ d)
   unfolding vars
   vars_fine d i g some e =
       let r = list_fine text ts (IsVarBelow d) (var text ts d) (λ i g e. var_fine d i g some e) i g e in
@@ -180,7 +180,7 @@ module _ (text : List ℕ) (ts : List Tok)
         vars_low = q.1;
       })))
 
-  param_fine : (d i : ℕ) (g : Part Param) → param text ts d i ≡ Some g → IsParam text ts g.tree i g.next × (type_depth g.tree.ty < d)
+  pub param_fine : (d i : ℕ) (g : Part Param) → param text ts d i ≡ Some g → IsParam text ts g.tree i g.next × (type_depth g.tree.ty < d)
   unfolding param
   param_fine d i g e =
       step (type_under text ts d (after_final text ts i)) _ g e (λ ty got e1.

@@ -45,3 +45,21 @@ abbrev pub IsGot : {X A : Type 0} → (X → A) → Result (Got X) SyntaxFault �
 IsGot view (Ok g) x j = (view g.tree ≡ x) × (g.next ≡ j)
 IsGot view (Err (Bad token)) x j = ⊥
 IsGot view (Err NoMemory) x j = Unit {0}
+
+-- the number that a fault names
+abbrev pub IfBad : SyntaxFault → (ℕ → Type 0) → Type 0
+IfBad (Bad token) P = P token
+IfBad NoMemory P = Unit {0}
+
+abbrev pub IfFault : {X : Type 0} → Result X SyntaxFault → (ℕ → Type 0) → Type 0
+IfFault (Ok r) P = Unit {0}
+IfFault (Err fault) P = IfBad fault P
+
+abbrev pub IsNoMemory : SyntaxFault → Type 0
+IsNoMemory (Bad token) = ⊥
+IsNoMemory NoMemory = Unit {0}
+
+abbrev pub UnlessNoMemory : {X : Type 0} → Result X SyntaxFault → Type 0 → Type 0
+UnlessNoMemory (Ok r) P = P
+UnlessNoMemory (Err (Bad token)) P = P
+UnlessNoMemory (Err NoMemory) P = Unit {0}

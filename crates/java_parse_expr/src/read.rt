@@ -1,13 +1,14 @@
 //! Trees from the tokens of a text.
 
-ghost use Rattle.std.specs.Prelude.{◌≡◌, ◌+◌, ◌-◌, ◌≤◌, ◌<◌, ◌^◌, ℕ, Bool, true, false, List, length, IfOk};
-ghost use Rattle.java_tree.specs.Names.{IsFront};
+ghost use Rattle.std.specs.Prelude.{◌≡◌, ◌↔◌, ◌+◌, ◌-◌, ◌≤◌, ◌<◌, ◌^◌, ℕ, Bool, true, false, List, length, IfOk};
+ghost use Rattle.java_tree.specs.Names.{AreDistinct, IsFront};
 ghost use Rattle.java_tree.specs.Plain as t;
 ghost use Rattle.java_tree.specs.View.{plain, type_plain, stmt_plain};
 ghost use Rattle.tree_numbers.specs.Numbers as numbers;
 ghost use Rattle.tree_numbers.specs.Sizes as size;
 ghost use Rattle.java_lexer.specs.Lexing.{Lexes};
 ghost use Rattle.java_grammar.specs.Reads.{sort_at};
+ghost use Rattle.java_grammar.specs.Interned.{interned};
 ghost use Rattle.java_grammar.specs.Sorts.{AreToks};
 ghost use Rattle.java_grammar.specs.Heights.{type_depth, expr_depth, stmt_depth};
 ghost use Rattle.java_grammar.specs.Expressions.{SpellsType, Spells, EndsAt, GoesOn};
@@ -15,7 +16,7 @@ ghost use Rattle.java_grammar.specs.Statements.{SpellsStmt};
 ghost use Rattle.java_grammar.specs.declared.token.Tok.{Tok};
 ghost use Rattle.java_parse_term.specs.Ready.{Readable};
 ghost use Rattle.java_parse_expr.specs.Parse as spec;
-ghost use Rattle.java_parse_expr.specs.Found.{IsTypeAt, IsExprAt, IsStmtAt, IsFound, IsGot};
+ghost use Rattle.java_parse_expr.specs.Found.{IsTypeAt, IsExprAt, IsStmtAt, IsFound, IsGot, IfBad, IfFault, IsNoMemory, UnlessNoMemory};
 
 use crate::got::Got;
 use crate::steps::{Source, ends_at, goes_on};
@@ -43,7 +44,9 @@ fn toks(
     ensures one { IfOk result (λ ts. (us : List Tok) → AreToks text.now names.new tokens.now us → us ≡ ts) }
     ensures ready { IfOk result (λ ts. Readable text.now ts) }
     ensures count { IfOk result (λ ts. length ts ≡ length tokens.now) }
+    ensures table { IfOk result (λ ts. names.new ≡ interned text.now tokens.now names.old) }
     ensures kept { IsFront names.old names.new }
+    ensures distinct { AreDistinct names.old → AreDistinct names.new }
     ensures grown { length names.new ≤ length names.old + length tokens.now }
 {
     let toks = toks_of(alloc, text, tokens, names)?;
@@ -163,6 +166,20 @@ fn numbered_type(found: Got<Boxed<TypeExpr>>, first: u32) -> (TypeExpr, usize)
     (tree, next)
 }
 
+/// The fault, with no token behind the end.
+pub fn within(fault: SyntaxFault, tokens: &[Token]) -> SyntaxFault
+    requires { length tokens.now < 2 ^ 32 }
+    ensures token { IfBad result (λ token. token ≤ length tokens.now) }
+    ensures memory { IsNoMemory result ↔ IsNoMemory fault }
+{
+    match fault {
+        SyntaxFault::Bad { token } => SyntaxFault::Bad {
+            token: token.min(tokens.len() as u32),
+        },
+        SyntaxFault::NoMemory => SyntaxFault::NoMemory,
+    }
+}
+
 /// The expression that stretches from a token to the end or one of `) ] } , ; :`, and the token behind it (JLS 15). The rest is as for
 /// a statement.
 pub fn parse_expr(
@@ -179,13 +196,16 @@ pub fn parse_expr(
     requires numbers { first + length tokens.now < 2 ^ 32 }
     ensures found { IfOk result (λ r. IsExprAt text.now names.new tokens.now at depth first 14 (plain r.0) r.1) }
     ensures only { (x : t.Expr) (j : ℕ) → IsExprAt text.now names.new tokens.now at depth first 14 x j → IsFound plain result x j }
+    ensures token { IfFault result (λ token. token ≤ length tokens.now) }
+    ensures table { UnlessNoMemory result (names.new ≡ interned text.now tokens.now names.old) }
     ensures kept { IsFront names.old names.new }
+    ensures distinct { AreDistinct names.old → AreDistinct names.new }
     ensures grown { length names.new ≤ length names.old + length tokens.now }
 {
     let toks = toks(alloc, text, tokens, names)?;
     match expr_of(alloc, text, toks.as_slice(), 14, at, depth) {
         Ok(found) => Ok(numbered_expr(found, first)),
-        Err(fault) => Err(fault),
+        Err(fault) => Err(within(fault, tokens)),
     }
 }
 
@@ -205,13 +225,16 @@ pub fn parse_init(
     requires numbers { first + length tokens.now < 2 ^ 32 }
     ensures found { IfOk result (λ r. IsExprAt text.now names.new tokens.now at depth first 15 (plain r.0) r.1) }
     ensures only { (x : t.Expr) (j : ℕ) → IsExprAt text.now names.new tokens.now at depth first 15 x j → IsFound plain result x j }
+    ensures token { IfFault result (λ token. token ≤ length tokens.now) }
+    ensures table { UnlessNoMemory result (names.new ≡ interned text.now tokens.now names.old) }
     ensures kept { IsFront names.old names.new }
+    ensures distinct { AreDistinct names.old → AreDistinct names.new }
     ensures grown { length names.new ≤ length names.old + length tokens.now }
 {
     let toks = toks(alloc, text, tokens, names)?;
     match expr_of(alloc, text, toks.as_slice(), 15, at, depth) {
         Ok(found) => Ok(numbered_expr(found, first)),
-        Err(fault) => Err(fault),
+        Err(fault) => Err(within(fault, tokens)),
     }
 }
 
@@ -231,19 +254,23 @@ pub fn parse_type(
     requires numbers { first + length tokens.now < 2 ^ 32 }
     ensures found { IfOk result (λ r. IsTypeAt text.now names.new tokens.now at depth first (type_plain r.0) r.1) }
     ensures only { (x : t.TypeExpr) (j : ℕ) → IsTypeAt text.now names.new tokens.now at depth first x j → IsFound type_plain result x j }
+    ensures token { IfFault result (λ token. token ≤ length tokens.now) }
+    ensures table { UnlessNoMemory result (names.new ≡ interned text.now tokens.now names.old) }
     ensures kept { IsFront names.old names.new }
+    ensures distinct { AreDistinct names.old → AreDistinct names.new }
     ensures grown { length names.new ≤ length names.old + length tokens.now }
 {
     let toks = toks(alloc, text, tokens, names)?;
     match type_of(alloc, text, toks.as_slice(), at, depth) {
         Ok(found) => Ok(numbered_type(found, first)),
-        Err(fault) => Err(fault),
+        Err(fault) => Err(within(fault, tokens)),
     }
 }
 
 /// The statement that begins at a token, and the token behind it (JLS 14). A call of `this` or `super` is a statement here,
 /// wherever it stands. Nodes are numbered in preorder from `first`, and the depth of the tree is at most `depth`, where its
-/// own node has 0. Identifiers are put into the table of names, and stay there after a fault.
+/// own node has 0. The identifiers of all tokens are put into the table of names, in order of first sight, and stay there after a fault,
+/// which names a token or the end.
 pub fn parse_stmt(
     alloc: Global,
     text: &[u8],
@@ -258,12 +285,15 @@ pub fn parse_stmt(
     requires numbers { first + length tokens.now < 2 ^ 32 }
     ensures found { IfOk result (λ r. IsStmtAt text.now names.new tokens.now at depth first (stmt_plain r.0) r.1) }
     ensures only { (x : t.Stmt) (j : ℕ) → IsStmtAt text.now names.new tokens.now at depth first x j → IsFound stmt_plain result x j }
+    ensures token { IfFault result (λ token. token ≤ length tokens.now) }
+    ensures table { UnlessNoMemory result (names.new ≡ interned text.now tokens.now names.old) }
     ensures kept { IsFront names.old names.new }
+    ensures distinct { AreDistinct names.old → AreDistinct names.new }
     ensures grown { length names.new ≤ length names.old + length tokens.now }
 {
     let toks = toks(alloc, text, tokens, names)?;
     match stmt_at(alloc, text, toks.as_slice(), at, depth) {
         Ok(found) => Ok(numbered_stmt(found, first)),
-        Err(fault) => Err(fault),
+        Err(fault) => Err(within(fault, tokens)),
     }
 }

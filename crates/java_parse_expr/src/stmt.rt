@@ -259,7 +259,7 @@ impl<
         let caught = Catch {
             node: self.source.node(at, next),
             param: param.into_inner(),
-            body: body.into_inner(),
+            body,
         };
         Ok(Got {
             tree: Boxed::new(self.source.alloc, caught)?,

@@ -1,2 +1,4 @@
 pub mod Tables
+pub mod Founds
+pub mod Paths
 pub mod Views

@@ -217,7 +217,7 @@ pub struct Group {
 pub struct Catch {
     pub node: Node,
     pub param: Param,
-    pub body: Stmt,
+    pub body: Boxed<Stmt>,
 }
 
 #[cycle(expr)]

@@ -15,9 +15,12 @@ const VERSION: &str = "jgen 0.1.0";
 const HELP: &str = "\
 jgen: refactorings of Java programs, proved to keep what the programs do
 
-  jgen generalize OUT FILE LINE COL TYPE -- FILE
-      Changes the declared type that begins at LINE and COL of FILE, both from 1,
-      into TYPE, and writes OUT/FILE. COL counts bytes. FILE is not changed.
+  jgen generalize OUT FILE LINE COL TYPE -- FILES [+ LIBRARY FILES]
+      Changes the declared type that begins at LINE and COL of FILE, one of the
+      FILES, into TYPE, and writes OUT/FILE. LINE and COL count from 1, COL bytes.
+      FILE is not changed. Today a change is made in small programs of one file.
+  Other commands (check, run, allowed, extract-interface, pull-up,
+  infer-type-arguments, workload) are read and refused as N1, not built yet.
   jgen --help
   jgen --version
 
@@ -25,11 +28,12 @@ What is reported, a line each:
   edit FILE FROM TO BYTES TEXT   the bytes FROM to before TO of FILE become TEXT
   done K edits                   the last line of a change
   refused RULE PLACE             the first rule or constraint against the change
+  usage RULE                     the lowest rule that the words break
   missing NAME, read fault NAME, write fault NAME
 
 Exit status:
-  0 done   1 refused   3 a file is missing   4 a read failed   5 a write failed
-  6 the report could not be printed   7 memory ran out
+  0 done   1 refused   2 usage   3 a file is missing   4 a read failed
+  5 a write failed   6 the report could not be printed   7 memory ran out
   8 the words could not be had (no memory, or not UTF-8)
 
 Example, in the folder examples/first:

@@ -6,11 +6,11 @@ use Rattle.java_tree.specs.declared.tree.Node.{Node}
 use Rattle.java_tree.specs.declared.tree.Span.{Span}
 use Rattle.java_tree.specs.Plain as t
 use Rattle.java_tree.specs.Plain.{Expr, Stmt, Stmts, SourceUnit}
-use Rattle.small_lexer.specs.declared.token.Tok.{Tok}
-use Rattle.small_lexer.specs.Reads.{text_at, from_at, span_of}
-use Rattle.small_lexer.specs.Replaced.{Change}
-use Rattle.small_parser.specs.Nodes.{stmt_nodes}
-use Rattle.small_parser.specs.Grammar.{type_at, local_at, IsStep, AreSteps, Spells}
+use Rattle.java_grammar.specs.declared.token.Tok.{Tok}
+use Rattle.java_grammar.specs.Reads.{name_at, from_at, span_of}
+use Rattle.small_programs.specs.Replaced.{Change}
+use Rattle.small_programs.specs.Nodes.{stmt_nodes}
+use Rattle.small_programs.specs.Grammar.{type_at, local_at, IsStep, AreSteps, Spells}
 use Rattle.class_world.specs.declared.world.World.{World}
 use Rattle.class_world.specs.declared.world.JavaType.{JavaType}
 use Rattle.class_world.specs.Subtypes.{IsClassTree}
@@ -54,7 +54,7 @@ new_before_step u (t.Local b f x (v ∷ [])) ls n e = new_before (local_of u x v
 new_before_step u (t.Local b f x (v ∷ v' ∷ vs)) ls n e = e
 new_before_step u _ ls n e = e
 
-module _ (names : List (List ℕ)) (ts : List Tok) (c : Change) (u : SourceUnit) (x : q.Local) (target : ℕ) (w : World) (a b : Annotation) where
+module _ (names : List (List ℕ)) (text : List ℕ) (ts : List Tok) (c : Change) (u : SourceUnit) (x : q.Local) (target : ℕ) (w : World) (a b : Annotation) where
   abbrev Steps : List Local → Stmts → Type 0
   Steps = AreTyped (HasTypeAt a) (HasUseAt a) u w
 
@@ -99,34 +99,34 @@ module _ (names : List (List ℕ)) (ts : List Tok) (c : Change) (u : SourceUnit)
           record { l = there.l; m = there.m; old_find = rw is there.old_find; new_find = rw is_not there.new_find; changed = there.changed }
 
   -- the declaration brings x into scope
-  comes_in_scope : (is : ChangesLocal names ts c u x target) (n i m : ℕ) (e : Expr) → HasStmt (main_steps u) (local_at names ts n i m e) → local_at names ts n i m e ≡ declaration is.declares
-      → (ls ms : List Local) → IsThere (before names ts c u x target n i ∷ ls) (after names ts c u x target n i ∷ ms)
+  comes_in_scope : (is : ChangesLocal names text ts c u x target) (n i m : ℕ) (e : Expr) → HasStmt (main_steps u) (local_at names text ts n i m e) → local_at names text ts n i m e ≡ declaration is.declares
+      → (ls ms : List Local) → IsThere (before names text ts c u x target n i ∷ ls) (after names text ts c u x target n i ∷ ms)
   comes_in_scope is n i m e has same ls ms =
-      record { l = before names ts c u x target n i; m = after names ts c u x target n i; old_find = rw named refl; new_find = rw named refl; changed = changed }
+      record { l = before names text ts c u x target n i; m = after names text ts c u x target n i; old_find = rw named refl; new_find = rw named refl; changed = changed }
     where
       d : q.Declares u x
       d = is.declares
 
       here : (from_at ts i == c.from) ≡ true
       here =
-          let type : type_at names ts (n + 1) i 0 ≡ t.Written d.type_node d.written x.head d.args d.dims = cc same in
+          let type : type_at names text ts (n + 1) i 0 ≡ t.Written d.type_node d.written x.head d.args d.dims = cc same in
           let head : span_of ts i (i + 1) ≡ x.head = cc type in
           let begins_here : from_at ts i ≡ c.from = sym (begins ts i (i + 1)) ∙ ap (λ (s : Span). s.from) head ∙ sym is.from in
           grind (arith, nat_tests)
 
-      changed : IsChanged x target (before names ts c u x target n i) (after names ts c u x target n i)
-      changed = local_changed names ts c u x target is n i m e has here
+      changed : IsChanged x target (before names text ts c u x target n i) (after names text ts c u x target n i)
+      changed = local_changed names text ts c u x target is n i m e has here
 
-      named : (text_at ts (i + 1) == x.name.0) ≡ true
+      named : (name_at ts (i + 1) == x.name.0) ≡ true
       named =
-          let number : text_at ts (i + 1) ≡ x.name.0 = ap (λ (n : Name). n.0) changed.name in
+          let number : name_at ts (i + 1) ≡ x.name.0 = ap (λ (n : Name). n.0) changed.name in
           grind (arith, nat_tests)
 
   -- x is in scope behind a statement: one that declares x, or one before which x was in scope
   abbrev IsThereAfter : List Local → List Local → Stmt → Type 0
   IsThereAfter ls ms s = IsThere (scope_after u ls s) (scope_after (generalized c u) ms (stmt c s))
 
-  declared : (is : ChangesLocal names ts c u x target) (s : Stmt) (n i j : ℕ) → IsStep names ts n s i j → HasStmt (main_steps u) s → (ls ms : List Local)
+  declared : (is : ChangesLocal names text ts c u x target) (s : Stmt) (n i j : ℕ) → IsStep names text ts n s i j → HasStmt (main_steps u) s → (ls ms : List Local)
       → s ≡ declaration is.declares → IsThereAfter ls ms s
   declared is s n i j (inl h) has ls ms same =
       subst (λ s. HasStmt (main_steps u) s → s ≡ declaration is.declares → IsThereAfter ls ms s) (sym h.tree)
@@ -134,14 +134,14 @@ module _ (names : List (List ℕ)) (ts : List Tok) (c : Change) (u : SourceUnit)
   declared is s n i j (inr (inl h)) has ls ms same = let tree = h.tree in absurd (cc (tree, same))
   declared is s n i j (inr (inr (stand, tree, next))) has ls ms same = absurd (cc (tree, same))
 
-  stays : (s : Stmt) (n i j : ℕ) → IsStep names ts n s i j → (ls ms : List Local) → Step ls s → IsThere ls ms → IsThereAfter ls ms s
+  stays : (s : Stmt) (n i j : ℕ) → IsStep names text ts n s i j → (ls ms : List Local) → Step ls s → IsThere ls ms → IsThereAfter ls ms s
   stays s n i j (inl h) ls ms typed there =
       subst (λ s. Step ls s → IsThereAfter ls ms s) (sym h.tree)
-      (λ typed. still_in_scope (before names ts c u x target n i) (after names ts c u x target n i) ls ms refl typed.2 there) typed
+      (λ typed. still_in_scope (before names text ts c u x target n i) (after names text ts c u x target n i) ls ms refl typed.2 there) typed
   stays s n i j (inr (inl h)) ls ms typed there = subst (IsThereAfter ls ms) (sym h.tree) there
   stays s n i j (inr (inr (stand, tree, next))) ls ms typed there = subst (IsThereAfter ls ms) (sym tree) there
 
-  step_in_scope : (is : ChangesLocal names ts c u x target) (s : Stmt) (ss : Stmts) (n i j : ℕ) → IsStep names ts n s i j → HasStmt (main_steps u) s
+  step_in_scope : (is : ChangesLocal names text ts c u x target) (s : Stmt) (ss : Stmts) (n i j : ℕ) → IsStep names text ts n s i j → HasStmt (main_steps u) s
       → (ls ms : List Local) → Step ls s → InScope is.declares ls ms (t.Then s ss)
       → InScope is.declares (scope_after u ls s) (scope_after (generalized c u) ms (stmt c s)) ss
   step_in_scope is s ss n i j step has ls ms typed (inl (inr later)) = inl later
@@ -206,7 +206,7 @@ module _ (names : List (List ℕ)) (ts : List Tok) (c : Change) (u : SourceUnit)
             let class : k' ≡ target = (same_number k' target [] [] (type' ∙ ap (λ (l : Local). l.ty) same ∙ there.changed.new)).0 in
             (chosen', used', subst (λ k. IsChosen w k m chosen') class is')
 
-    pub calls_alike : (is : ChangesLocal names ts c u x target) (xs : Stmts) (n i j : ℕ) → AreSteps names ts n xs i j → ((s : Stmt) → HasStmt xs s → HasStmt (main_steps u) s)
+    pub calls_alike : (is : ChangesLocal names text ts c u x target) (xs : Stmts) (n i j : ℕ) → AreSteps names text ts n xs i j → ((s : Stmt) → HasStmt xs s → HasStmt (main_steps u) s)
         → (ls ms : List Local) → AreAlike x target ls ms → InScope is.declares ls ms xs → Steps ls xs → NewSteps ms (stmts c xs)
         → (stmt call receiver : Node) (y m : Name) → HasStmt xs (call_on stmt call receiver y m) → CallKeeps w x target a b call receiver y m
     calls_alike is t.Last n i j h among ls ms alike scope old new stmt call receiver y m has = absurd has
@@ -215,10 +215,10 @@ module _ (names : List (List ℕ)) (ts : List Tok) (c : Change) (u : SourceUnit)
         (call_keeps is.declares ss ls ms alike stmt call receiver y m) scope old new
     calls_alike is (t.Then s ss) n i j (k, step, rest) among ls ms alike scope (first, more) (first', more') stmt call receiver y m (inr has) =
         let here = among s (inl refl) in
-        calls_alike is ss (n + stmt_nodes s) k j rest (λ s has. among s (inr has)) _ _ (scopes_alike names ts c u x target is s n i k step here ls ms alike)
+        calls_alike is ss (n + stmt_nodes s) k j rest (λ s has. among s (inr has)) _ _ (scopes_alike names text ts c u x target is s n i k step here ls ms alike)
         (step_in_scope is s ss n i k step here ls ms first scope) more more' stmt call receiver y m has
 
-  pub calls_kept : IsClassTree w → AreApart w → ChangesLocal names ts c u x target → Annotates a u w → Annotates b (generalized c u) w
+  pub calls_kept : IsClassTree w → AreApart w → ChangesLocal names text ts c u x target → Annotates a u w → Annotates b (generalized c u) w
       → (stmt call receiver : Node) (y m : Name)
       → HasStmt (main_steps u) (call_on stmt call receiver y m) → CallKeeps w x target a b call receiver y m
   calls_kept tree apart is old new stmt call receiver y m has =
@@ -226,11 +226,11 @@ module _ (names : List (List ℕ)) (ts : List Tok) (c : Change) (u : SourceUnit)
       (subst (Steps start) body old.0) (subst (NewSteps new_start) (main_steps_changed c u ∙ ap (stmts c) body) new.0) stmt call receiver y m
       (subst (λ xs. HasStmt xs (call_on stmt call receiver y m)) body has)
     where
-      main : Main names ts u.types
-      main = main_is names ts u is.spells
+      main : Main names text ts u.types
+      main = main_is names text ts u is.spells
 
       body : main_steps u ≡ main.is.body
-      body = main_body names ts u main
+      body = main_body names text ts u main
 
       start : List Local
       start = params_in (HasTypeAt a) (HasUseAt a) u w (params_of (main_method u))
@@ -239,7 +239,7 @@ module _ (names : List (List ℕ)) (ts : List Tok) (c : Change) (u : SourceUnit)
       new_start = params_in (HasTypeAt b) (HasUseAt b) (generalized c u) w (params_of (main_method (generalized c u)))
 
       alike : AreAlike x target start new_start
-      alike = start_alike names ts c u x target (HasTypeAt a) (HasTypeAt b) (HasUseAt a) (HasUseAt b) w w is
+      alike = start_alike names text ts c u x target (HasTypeAt a) (HasTypeAt b) (HasUseAt a) (HasUseAt b) w w is
 
       scope : InScope is.declares start new_start main.is.body
       scope = inl (subst (λ xs. HasStmt xs (declaration is.declares)) body is.declares.stands)
@@ -247,12 +247,12 @@ module _ (names : List (List ℕ)) (ts : List Tok) (c : Change) (u : SourceUnit)
       among : (s : Stmt) → HasStmt main.is.body s → HasStmt (main_steps u) s
       among s has = subst (λ xs. HasStmt xs s) (sym body) has
 
-pub calls_keep : (names : List (List ℕ)) (ts : List Tok) (u : SourceUnit) (x : q.Local) (target : ℕ) (c : Change) → InOrder ts → Spells names ts u
+pub calls_keep : (names : List (List ℕ)) (text : List ℕ) (ts : List Tok) (u : SourceUnit) (x : q.Local) (target : ℕ) (c : Change) → InOrder ts → Spells names text ts u
     → q.Declares u x → c.from ≡ x.head.from → IsNameOf u c.name target → IsClassTree (world_of u) → AreApart (world_of u)
     → (a b : Annotation) → Annotates a u (world_of u) → Annotates b (generalized c u) (world_of (generalized c u))
     → (stmt call receiver : Node) (y m : Name) → HasStmt (main_steps u) (t.Value stmt (t.Call call (t.AnExpr (t.Name receiver y)) m t.End))
     → CallKeeps (world_of u) x target a b call receiver y m
-calls_keep names ts u x target c order spells declares from named tree apart a b old new =
-    let is = changes_local names ts c u x target order spells declares from named in
-    let same = world_same names ts c u (unit_alike names ts c u is.kept spells) in
-    calls_kept names ts c u x target (world_of u) a b tree apart is old (subst (Annotates b (generalized c u)) same new)
+calls_keep names text ts u x target c order spells declares from named tree apart a b old new =
+    let is = changes_local names text ts c u x target order spells declares from named in
+    let same = world_same names text ts c u (unit_alike names text ts c u is.kept spells) in
+    calls_kept names text ts c u x target (world_of u) a b tree apart is old (subst (Annotates b (generalized c u)) same new)

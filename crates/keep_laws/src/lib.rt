@@ -6,9 +6,9 @@ ghost use Rattle.java_tree.specs.declared.tree.Name.{Name};
 ghost use Rattle.java_tree.specs.declared.tree.Node.{Node};
 ghost use Rattle.java_tree.specs.Plain as t;
 ghost use Rattle.java_tree.specs.Plain.{SourceUnit};
-ghost use Rattle.small_lexer.specs.declared.token.Tok.{Tok};
-ghost use Rattle.small_lexer.specs.Replaced.{Change};
-ghost use Rattle.small_parser.specs.Grammar.{Spells};
+ghost use Rattle.java_grammar.specs.declared.token.Tok.{Tok};
+ghost use Rattle.small_programs.specs.Replaced.{Change};
+ghost use Rattle.small_programs.specs.Grammar.{Spells};
 ghost use Rattle.class_world.specs.Subtypes.{IsBelow, IsClassTree};
 ghost use Rattle.class_world.specs.Members.{AreApart};
 ghost use Rattle.java_typing.specs.Main.{main_steps, HasStmt};
@@ -24,7 +24,7 @@ ghost use Rattle.keep_laws.specs.Kept.{IsNameOf, CallKeeps};
 /// Where no rule is broken, and a local variable of main (JLS 14.4) is declared of a type above its own that answers each call
 /// on it and fits where it flows to another local, the changed file has the same types and methods, and no rule is broken.
 pub fn generalize_keeps()
-    ensures { (names : List (List ℕ)) (ts : List Tok) (u : SourceUnit) (x : Local) (target : ℕ) (c : Change) → InOrder ts → Spells names ts u
+    ensures { (names : List (List ℕ)) (text : List ℕ) (ts : List Tok) (u : SourceUnit) (x : Local) (target : ℕ) (c : Change) → InOrder ts → Spells names text ts u
         → DeclarationsHold names u (world_of u) → StepsHold u (world_of u) → Declares u x → c.from ≡ x.head.from → c.to ≡ x.head.to
         → IsNameOf u c.name target → IsBelow (world_of u) x.ty target → AreMet u (world_of u) x target
         → (world_of (generalized c u) ≡ world_of u) × DeclarationsHold names (generalized c u) (world_of (generalized c u))
@@ -34,7 +34,7 @@ pub fn generalize_keeps()
 /// Where a file and the changed one are annotated, each call of main on another local uses the method that it used, and each call
 /// on the local the method of its name that is chosen on the new type (JLS 15.12.2).
 pub fn calls_keep()
-    ensures { (names : List (List ℕ)) (ts : List Tok) (u : SourceUnit) (x : Local) (target : ℕ) (c : Change) → InOrder ts → Spells names ts u
+    ensures { (names : List (List ℕ)) (text : List ℕ) (ts : List Tok) (u : SourceUnit) (x : Local) (target : ℕ) (c : Change) → InOrder ts → Spells names text ts u
         → Declares u x → c.from ≡ x.head.from → IsNameOf u c.name target → IsClassTree (world_of u) → AreApart (world_of u)
         → (a b : Annotation) → Annotates a u (world_of u) → Annotates b (generalized c u) (world_of (generalized c u))
         → (stmt call receiver : Node) (y m : Name)
@@ -45,7 +45,7 @@ pub fn calls_keep()
 /// Where a file and the changed one are programs, they correspond: the change is seen in the uses of calls on the local alone, and there the new method
 /// is the old one, or one that it overrides (JLS 8.4.8.1).
 pub fn generalize_corresponds()
-    ensures { (names : List (List ℕ)) (ts : List Tok) (u : SourceUnit) (x : Local) (target : ℕ) (c : Change) → InOrder ts → Spells names ts u
+    ensures { (names : List (List ℕ)) (text : List ℕ) (ts : List Tok) (u : SourceUnit) (x : Local) (target : ℕ) (c : Change) → InOrder ts → Spells names text ts u
         → Declares u x → c.from ≡ x.head.from → IsNameOf u c.name target → IsClassTree (world_of u) → AreApart (world_of u) → IsBelow (world_of u) x.ty target
         → (g h : Program) → IsProgramOf u g → IsProgramOf (generalized c u) h → Correspond g h }
 {}

@@ -3,16 +3,11 @@ use Rattle.std.proofs.Common.{◌≡◌, ℕ, inl, inr, List, ◌++◌, Option, 
 use Rattle.tool_files.specs.Told.{Rose, Appends, AppendsSome}
 use Rattle.refactor_app.specs.declared.status.Status.{Status}
 use Rattle.refactor_app.specs.declared.status.Status.TheVariants as s
-use Rattle.refactor_app.specs.Answers.{IsDone, IsRefused, IsMissing, IsReadFault, IsWriteFault, IsOutFault, IsOne, IsCut}
+use Rattle.refactor_app.specs.Answers.{IsDone, IsRefused, IsUsage, IsMissing, IsReadFault, IsWriteFault, IsOutFault, IsOne, IsCut, IsChange}
 use Rattle.refactor_app.specs.Course.{Moment, EndsAt, Course}
 use Rattle.refactor_app.specs.Course as way
-
--- the report that a call puts last, and the answer that it stands for
-record Last (words : List (List ℕ)) (a b : Moment) (st : Status) : Type 0 where
-  report : List ℕ
-  wanted : Status
-  ends : EndsAt a b report wanted st
-  one : (whole : Option (List ℕ)) → Appends a.put whole report → IsOne words a.holds b.holds a.put whole
+use Rattle.refactor_app.specs.Words.{Request}
+use Rattle.edit_writer.specs.declared.edits.Edit.{Edit}
 
 -- what was told before the put is told after it
 whole_of : (before after : Option (List ℕ)) (report : List ℕ) → AppendsSome before after report → (whole : Option (List ℕ)) × Appends before whole report
@@ -29,36 +24,41 @@ cut words a b report c one =
 pub data Told (words : List (List ℕ)) (a b : Moment) (st : Status) : Type 0 where
   done : st ≡ s.Done → IsDone words a.holds b.holds a.put b.put → Told words a b st
   refused : st ≡ s.Refused → IsRefused words a.holds b.holds a.put b.put → Told words a b st
+  usage : st ≡ s.Usage → IsUsage words a.holds b.holds a.put b.put → Told words a b st
   missing : st ≡ s.Missing → Rose a.misses b.misses → IsMissing words a.holds b.holds a.put b.put → Told words a b st
   read_fault : st ≡ s.ReadFault → Rose a.read_faults b.read_faults → IsReadFault words a.holds b.holds a.put b.put → Told words a b st
   write_fault : st ≡ s.WriteFault → Rose a.write_faults b.write_faults → IsWriteFault words a.holds b.holds a.put b.put → Told words a b st
   out_fault : st ≡ s.OutFault → Rose a.faults b.faults → IsOutFault words a.holds b.holds a.put b.put → Told words a b st
   no_memory : st ≡ s.NoMemory → b.holds ≡ a.holds → b.put ≡ a.put → Told words a b st
 
+-- a change says nothing of what is held and put later
+asked : (words : List (List ℕ)) (a b : Moment) (put : Option (List ℕ)) (q : Request) (made : List ℕ) (e : Edit) → way.IsAsked words a q made e → IsChange words a.holds b.holds a.put put q made e
+asked words a b put q made e h = record { text = h.text; names = h.names; unit = h.unit; parsed = h.parsed; alone = h.alone; changes = h.changes }
+
 pub told : (words : List (List ℕ)) (a b : Moment) (st : Status) → Course words a b st → Told words a b st
-told words a b st (way.Course.no_request none same ends) = elim ends [
-  | inl e ↦ refused e.0 (inl (record { none = none; report = e.1 }), same)
-  | inr c ↦ let o = cut words a b _ c.1 (λ whole p. inr (inl (inl (record { none = none; report = p }), same))) in out_fault c.0 o.0 o.1
+told words a b st (way.Course.usages {rule = n} lowest same ends) = elim ends [
+  | inl e ↦ usage e.0 (record { rule = n; lowest = lowest; report = e.1; nothing = same })
+  | inr c ↦ let o = cut words a b _ c.1 (λ whole p. inr (inr (inl (record { rule = n; lowest = lowest; report = p; nothing = same })))) in out_fault c.0 o.0 o.1
 ]
-told words a b st (way.Course.absent {q = q} asks absent rose same ends) = elim ends [
-  | inl e ↦ missing e.0 rose (record { q = q; asks = asks; absent = absent; report = e.1; nothing = same })
-  | inr c ↦ let o = cut words a b _ c.1 (λ whole p. inr (inr (inl (record { q = q; asks = asks; absent = absent; report = p; nothing = same })))) in out_fault c.0 o.0 o.1
+told words a b st (way.Course.absent {q = q} k name asks named absent rose same ends) = elim ends [
+  | inl e ↦ missing e.0 rose (record { q = q; asks = asks; file = k; name = name; named = named; absent = absent; report = e.1; nothing = same })
+  | inr c ↦ let o = cut words a b _ c.1 (λ whole p. inr (inr (inr (inl (record { q = q; asks = asks; file = k; name = name; named = named; absent = absent; report = p; nothing = same }))))) in out_fault c.0 o.0 o.1
 ]
-told words a b st (way.Course.unread {q = q} asks there rose same ends) = elim ends [
-  | inl e ↦ read_fault e.0 rose (record { q = q; asks = asks; there = there; report = e.1; nothing = same })
-  | inr c ↦ let o = cut words a b _ c.1 (λ whole p. inr (inr (inr (inl (record { q = q; asks = asks; there = there; report = p; nothing = same }))))) in out_fault c.0 o.0 o.1
+told words a b st (way.Course.unread {q = q} k name asks named unread rose same ends) = elim ends [
+  | inl e ↦ read_fault e.0 rose (record { q = q; asks = asks; file = k; name = name; named = named; unread = unread; report = e.1; nothing = same })
+  | inr c ↦ let o = cut words a b _ c.1 (λ whole p. inr (inr (inr (inr (inl (record { q = q; asks = asks; file = k; name = name; named = named; unread = unread; report = p; nothing = same })))))) in out_fault c.0 o.0 o.1
 ]
-told words a b st (way.Course.refuses {q = q} {text = text} {line = line} asks there r same ends) = elim ends [
-  | inl e ↦ refused e.0 (inr (record { q = q; asks = asks; text = text; there = there; line = line; refuses = r; report = e.1 }), same)
-  | inr c ↦ let o = cut words a b line c.1 (λ whole p. inr (inl (inr (record { q = q; asks = asks; text = text; there = there; line = line; refuses = r; report = p }), same))) in out_fault c.0 o.0 o.1
+told words a b st (way.Course.refuses {line = line} r same ends) = elim ends [
+  | inl e ↦ refused e.0 (record { line = line; refusal = r; report = e.1; nothing = same })
+  | inr c ↦ let o = cut words a b _ c.1 (λ whole p. inr (inl (record { line = line; refusal = r; report = p; nothing = same }))) in out_fault c.0 o.0 o.1
 ]
-told words a b st (way.Course.writes {q = q} {text = text} {made = made} {e = x} asks there ch w ends) = elim ends [
-  | inl e ↦ done e.0 (record { q = q; asks = asks; text = text; there = there; made = made; edit = x; changes = ch; written = w; report = e.1 })
-  | inr c ↦ let o = cut words a b _ c.1 (λ whole p. inl (record { q = q; asks = asks; text = text; there = there; made = made; edit = x; changes = ch; written = w; report = p })) in out_fault c.0 o.0 o.1
+told words a b st (way.Course.writes {q = q} {made = made} {e = x} change w ends) = elim ends [
+  | inl e ↦ done e.0 (record { q = q; made = made; edit = x; change = asked words a b b.put q made x change; written = w; report = e.1 })
+  | inr c ↦ let o = cut words a b _ c.1 (λ whole p. inl (record { q = q; made = made; edit = x; change = asked words a b whole q made x change; written = w; report = p })) in out_fault c.0 o.0 o.1
 ]
-told words a b st (way.Course.fails {q = q} {text = text} {made = made} {e = x} asks there ch w rose ends) = elim ends [
-  | inl e ↦ write_fault e.0 rose (record { q = q; asks = asks; text = text; there = there; made = made; edit = x; changes = ch; others = w; report = e.1 })
-  | inr c ↦ let o = cut words a b _ c.1 (λ whole p. inr (inr (inr (inr (record { q = q; asks = asks; text = text; there = there; made = made; edit = x; changes = ch; others = w; report = p }))))) in out_fault c.0 o.0 o.1
+told words a b st (way.Course.fails {q = q} {made = made} {e = x} change w rose ends) = elim ends [
+  | inl e ↦ write_fault e.0 rose (record { q = q; made = made; edit = x; change = asked words a b b.put q made x change; others = w; report = e.1 })
+  | inr c ↦ let o = cut words a b _ c.1 (λ whole p. inr (inr (inr (inr (inr (record { q = q; made = made; edit = x; change = asked words a b whole q made x change; others = w; report = p })))))) in out_fault c.0 o.0 o.1
 ]
 told words a b st (way.Course.no_memory same put is) = no_memory is same put
 
@@ -66,6 +66,7 @@ module _ (words : List (List ℕ)) (a b : Moment) (st : Status) where
   pub is_done : Told words a b st → st ≡ s.Done → IsDone words a.holds b.holds a.put b.put
   is_done (done is h) e = h
   is_done (refused is h) e = absurd (cc (is, e))
+  is_done (usage is h) e = absurd (cc (is, e))
   is_done (missing is r h) e = absurd (cc (is, e))
   is_done (read_fault is r h) e = absurd (cc (is, e))
   is_done (write_fault is r h) e = absurd (cc (is, e))
@@ -75,16 +76,28 @@ module _ (words : List (List ℕ)) (a b : Moment) (st : Status) where
   pub is_refused : Told words a b st → st ≡ s.Refused → IsRefused words a.holds b.holds a.put b.put
   is_refused (refused is h) e = h
   is_refused (done is h) e = absurd (cc (is, e))
+  is_refused (usage is h) e = absurd (cc (is, e))
   is_refused (missing is r h) e = absurd (cc (is, e))
   is_refused (read_fault is r h) e = absurd (cc (is, e))
   is_refused (write_fault is r h) e = absurd (cc (is, e))
   is_refused (out_fault is r h) e = absurd (cc (is, e))
   is_refused (no_memory is h p) e = absurd (cc (is, e))
 
+  pub is_usage : Told words a b st → st ≡ s.Usage → IsUsage words a.holds b.holds a.put b.put
+  is_usage (usage is h) e = h
+  is_usage (done is h) e = absurd (cc (is, e))
+  is_usage (refused is h) e = absurd (cc (is, e))
+  is_usage (missing is r h) e = absurd (cc (is, e))
+  is_usage (read_fault is r h) e = absurd (cc (is, e))
+  is_usage (write_fault is r h) e = absurd (cc (is, e))
+  is_usage (out_fault is r h) e = absurd (cc (is, e))
+  is_usage (no_memory is h p) e = absurd (cc (is, e))
+
   pub is_missing : Told words a b st → st ≡ s.Missing → Rose a.misses b.misses × IsMissing words a.holds b.holds a.put b.put
   is_missing (missing is r h) e = (r, h)
   is_missing (done is h) e = absurd (cc (is, e))
   is_missing (refused is h) e = absurd (cc (is, e))
+  is_missing (usage is h) e = absurd (cc (is, e))
   is_missing (read_fault is r h) e = absurd (cc (is, e))
   is_missing (write_fault is r h) e = absurd (cc (is, e))
   is_missing (out_fault is r h) e = absurd (cc (is, e))
@@ -94,6 +107,7 @@ module _ (words : List (List ℕ)) (a b : Moment) (st : Status) where
   is_read_fault (read_fault is r h) e = (r, h)
   is_read_fault (done is h) e = absurd (cc (is, e))
   is_read_fault (refused is h) e = absurd (cc (is, e))
+  is_read_fault (usage is h) e = absurd (cc (is, e))
   is_read_fault (missing is r h) e = absurd (cc (is, e))
   is_read_fault (write_fault is r h) e = absurd (cc (is, e))
   is_read_fault (out_fault is r h) e = absurd (cc (is, e))
@@ -103,6 +117,7 @@ module _ (words : List (List ℕ)) (a b : Moment) (st : Status) where
   is_write_fault (write_fault is r h) e = (r, h)
   is_write_fault (done is h) e = absurd (cc (is, e))
   is_write_fault (refused is h) e = absurd (cc (is, e))
+  is_write_fault (usage is h) e = absurd (cc (is, e))
   is_write_fault (missing is r h) e = absurd (cc (is, e))
   is_write_fault (read_fault is r h) e = absurd (cc (is, e))
   is_write_fault (out_fault is r h) e = absurd (cc (is, e))
@@ -112,6 +127,7 @@ module _ (words : List (List ℕ)) (a b : Moment) (st : Status) where
   is_out_fault (out_fault is r h) e = (r, h)
   is_out_fault (done is h) e = absurd (cc (is, e))
   is_out_fault (refused is h) e = absurd (cc (is, e))
+  is_out_fault (usage is h) e = absurd (cc (is, e))
   is_out_fault (missing is r h) e = absurd (cc (is, e))
   is_out_fault (read_fault is r h) e = absurd (cc (is, e))
   is_out_fault (write_fault is r h) e = absurd (cc (is, e))
@@ -121,16 +137,18 @@ module _ (words : List (List ℕ)) (a b : Moment) (st : Status) where
   is_no_memory (no_memory is h p) e = (h, p)
   is_no_memory (done is h) e = absurd (cc (is, e))
   is_no_memory (refused is h) e = absurd (cc (is, e))
+  is_no_memory (usage is h) e = absurd (cc (is, e))
   is_no_memory (missing is r h) e = absurd (cc (is, e))
   is_no_memory (read_fault is r h) e = absurd (cc (is, e))
   is_no_memory (write_fault is r h) e = absurd (cc (is, e))
   is_no_memory (out_fault is r h) e = absurd (cc (is, e))
 
-  pub no_other : Told words a b st → (st ≡ s.Usage → ⊥) × (st ≡ s.Threw → ⊥) × (st ≡ s.Bound → ⊥)
-  no_other (done is h) = (λ e. cc (is, e), λ e. cc (is, e), λ e. cc (is, e))
-  no_other (refused is h) = (λ e. cc (is, e), λ e. cc (is, e), λ e. cc (is, e))
-  no_other (missing is r h) = (λ e. cc (is, e), λ e. cc (is, e), λ e. cc (is, e))
-  no_other (read_fault is r h) = (λ e. cc (is, e), λ e. cc (is, e), λ e. cc (is, e))
-  no_other (write_fault is r h) = (λ e. cc (is, e), λ e. cc (is, e), λ e. cc (is, e))
-  no_other (out_fault is r h) = (λ e. cc (is, e), λ e. cc (is, e), λ e. cc (is, e))
-  no_other (no_memory is h p) = (λ e. cc (is, e), λ e. cc (is, e), λ e. cc (is, e))
+  pub no_other : Told words a b st → (st ≡ s.Threw → ⊥) × (st ≡ s.Bound → ⊥)
+  no_other (done is h) = (λ e. cc (is, e), λ e. cc (is, e))
+  no_other (refused is h) = (λ e. cc (is, e), λ e. cc (is, e))
+  no_other (usage is h) = (λ e. cc (is, e), λ e. cc (is, e))
+  no_other (missing is r h) = (λ e. cc (is, e), λ e. cc (is, e))
+  no_other (read_fault is r h) = (λ e. cc (is, e), λ e. cc (is, e))
+  no_other (write_fault is r h) = (λ e. cc (is, e), λ e. cc (is, e))
+  no_other (out_fault is r h) = (λ e. cc (is, e), λ e. cc (is, e))
+  no_other (no_memory is h p) = (λ e. cc (is, e), λ e. cc (is, e))

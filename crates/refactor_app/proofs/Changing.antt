@@ -6,12 +6,14 @@ use Rattle.java_tree.specs.declared.tree.Span.{Span}
 use Rattle.java_tree.specs.declared.tree.Head.TheVariants as head
 use Rattle.java_tree.specs.Plain as t
 use Rattle.java_tree.specs.Plain.{SourceUnit}
-use Rattle.small_lexer.specs.declared.token.Tok.{Tok}
-use Rattle.small_lexer.specs.Pieces.{IsIdentifier}
-use Rattle.small_lexer.specs.Lexing.{Lexes}
-use Rattle.small_lexer.specs.Replaced.{Change, moved_tok, replaced}
-use Rattle.small_lexer.proofs.TokenLemmas.{in_order, within}
-use Rattle.small_lexer.proofs.ChangeLemmas.{replaced_lexes}
+use Rattle.java_grammar.specs.declared.token.Tok.{Tok}
+use Rattle.small_programs.specs.Texts.{IsIdentifier}
+use Rattle.small_programs.specs.Texts.{Lexes}
+use Rattle.small_programs.specs.Replaced.{Change, moved_tok, replaced}
+use Rattle.small_programs.proofs.TokenLemmas.{in_order, within}
+use Rattle.small_programs.proofs.ChangeLemmas.{replaced_lexes, replaced_texts}
+use Rattle.small_programs.proofs.Whole.{small_spells}
+use Rattle.tree_edit.specs.Literals.{AreLiteralsKept}
 use Rattle.edit_writer.specs.declared.edits.Edit.{Edit}
 use Rattle.edit_writer.specs.Edits.{edited, AreOrdered}
 use Rattle.class_world.specs.declared.world.World.{World}
@@ -83,7 +85,7 @@ module _ (q : Request) (text : List ℕ) (p : Program) (w : World) (target : ℕ
       let spells = small.read.spells in
       let order = order_of p.names text p.toks lexes in
       let d = plan.named.declared in
-      let tok = local_token p.names p.toks p.unit spells d.node d.type_node d.is_final d.written plan.x.head d.args d.dims (d.var ∷ []) d.stands in
+      let tok = local_token p.names text p.toks p.unit spells d.node d.type_node d.is_final d.written plan.x.head d.args d.dims (d.var ∷ []) d.stands in
       let word : e.text ≡ q.ty = named p.names text p.unit w (asked q) target named_is.0 q.ty e same named_is.2 named_is.1 plan in
       let there : slice_get p.names named_is.0 ≡ Some e.text = named_is.1 ∙ ap Some (sym word) in
       let c : Change = record { from = e.from; to = e.to; len = length e.text; name = named_is.0 } in
@@ -93,18 +95,25 @@ module _ (q : Request) (text : List ℕ) (p : Program) (w : World) (target : ℕ
       let met : (kind : CKind) (n : Node) → IsUnmet p.unit (world_of p.unit) plan.x target kind n → ⊥ =
       subst (λ (w : World). (kind : CKind) (n : Node) → IsUnmet p.unit w plan.x target kind n → ⊥) same plan.met in
       let all_met : AreMet p.unit (world_of p.unit) plan.x target = subst (λ (w : World). AreMet p.unit w plan.x target) same plan.all_met in
-      let keeps = generalize_keeps p.names p.toks p.unit plan.x target c order spells small.checked.declarations small.checked.steps d plan.from plan.to named_is.2 below all_met in
+      let keeps = generalize_keeps p.names text p.toks p.unit plan.x target c order spells small.checked.declarations small.checked.steps d plan.from plan.to named_is.2 below all_met in
       let same_span : plan.x.head ≡ record { from = c.from; to = c.to } = span_is plan.x.head e.from e.to plan.from plan.to in
-      let spelled = generalized_spells p.names p.toks p.unit c order spells (t.Local d.node d.is_final (t.Written d.type_node d.written plan.x.head d.args d.dims) (d.var ∷ []), d.stands, same_span) in
-      let lexed = replaced_lexes p.names text p.toks tok.0 tok.1 e.text named_is.0 lexes tok.2 tok.3 (subst IsIdentifier (sym word) identifier) there in
+      let lexed = replaced_lexes p.names text p.toks tok.0 tok.1 e.text named_is.0 lexes tok.2 tok.3 tok.7 (subst IsIdentifier (sym word) identifier) there in
       let lexed_at = subst (λ (x : ℕ). Lexes p.names (replaced x e.to e.text text) (map (moved_tok (record { from = x; to = e.to; len = length e.text; name = named_is.0 })) p.toks)) from
       (subst (λ (y : ℕ). Lexes p.names (replaced tok.1.span.from y e.text text) (map (moved_tok (record { from = tok.1.span.from; to = y; len = length e.text; name = named_is.0 })) p.toks)) to lexed) in
+      let texts : AreLiteralsKept (record { from = tok.1.span.from; to = tok.1.span.to; len = length e.text; name = named_is.0 }) text (replaced tok.1.span.from tok.1.span.to e.text text) p.toks =
+      replaced_texts p.names text p.toks tok.0 tok.1 e.text named_is.0 lexes tok.2 tok.3 in
+      let texts_at : AreLiteralsKept c text (replaced e.from e.to e.text text) p.toks =
+      subst (λ (x : ℕ). AreLiteralsKept (record { from = x; to = e.to; len = length e.text; name = named_is.0 }) text (replaced x e.to e.text text) p.toks) from
+      (subst (λ (y : ℕ). AreLiteralsKept (record { from = tok.1.span.from; to = y; len = length e.text; name = named_is.0 }) text (replaced tok.1.span.from y e.text text) p.toks) to texts) in
       let whole : replaced e.from e.to e.text text ≡ new = one_edit (edit_of e) text ∙ sym made in
+      let kept = subst (λ (x : List ℕ). AreLiteralsKept c text x p.toks) whole texts_at in
+      let spelled = generalized_spells p.names text new p.toks p.unit c order kept spells (t.Local d.node d.is_final (t.Written d.type_node d.written plan.x.head d.args d.dims) (d.var ∷ []), d.stands, same_span) in
+      let lexed_new = subst (λ (x : List ℕ). Lexes p.names x (map (moved_tok c) p.toks)) whole lexed_at in
       let tree = subst IsClassTree same tree_w in
       let tree_after = subst IsClassTree (sym keeps.0) tree in
       let apart = small.checked.declarations.apart in
-      let notes = annotated p.names p.toks p.unit (world_of p.unit) spells small.checked.steps in
-      let notes_after = annotated p.names (map (moved_tok c) p.toks) (generalized c p.unit) (world_of (generalized c p.unit)) spelled keeps.2 in
+      let notes = annotated p.names text p.toks p.unit (world_of p.unit) spells small.checked.steps in
+      let notes_after = annotated p.names new (map (moved_tok c) p.toks) (generalized c p.unit) (world_of (generalized c p.unit)) spelled keeps.2 in
       let after : Program = record { names = p.names; toks = map (moved_tok c) p.toks; unit = generalized c p.unit } in
       record {
         old = p;
@@ -122,7 +131,7 @@ module _ (q : Request) (text : List ℕ) (p : Program) (w : World) (target : ℕ
         made = made;
         program = after;
         tree = refl;
-        read = record { table = refl; lexes = subst (λ (x : List ℕ). Lexes p.names x (map (moved_tok c) p.toks)) whole lexed_at; spells = spelled };
+        read = record { table = refl; lexes = lexed_new; tree = small_spells p.names new (map (moved_tok c) p.toks) (generalized c p.unit) spelled; spells = spelled };
         checked = record { declarations = keeps.1; steps = keeps.2 };
         annotated = (notes, notes_after);
         run = (
@@ -131,5 +140,5 @@ module _ (q : Request) (text : List ℕ) (p : Program) (w : World) (target : ℕ
         );
         behave = λ g h is_g is_h.
             behave_alike g h (subst IsClassTree (sym is_g.world) tree) (subst AreApart (sym is_g.world) apart)
-            (corresponds p.names p.toks p.unit plan.x target c order spells d plan.from named_is.2 tree apart below g h is_g is_h);
+            (corresponds p.names text p.toks p.unit plan.x target c order spells d plan.from named_is.2 tree apart below g h is_g is_h);
       }

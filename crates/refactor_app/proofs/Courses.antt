@@ -1,24 +1,48 @@
 -- From what a call's parts ensure to the way that it goes.
-use Rattle.std.proofs.Common.{◌≡◌, ℕ, zero, suc, ◌<◌, ◌≤◌, ◌⊎◌, inl, inr, List, [], ◌∷◌, length, take, Option, Some, None, Result, Ok, Err, IfOk, refl, sym, ◌∙◌, ap, subst, arith}
+use Rattle.std.proofs.Common.{◌≡◌, ◌≢◌, ℕ, zero, suc, ◌+◌, ◌<◌, ◌≤◌, ◌⊎◌, inl, inr, true, false, ◌||◌, Bool, List, [], ◌∷◌, ◌++◌, length, map, get_or, Option, Some, None, slice_get, Result, Ok, Err, IfOk, refl, sym, ◌∙◌, ap, subst, arith}
 use Rattle.std.specs.Prelude.{OnErr, codes}
+use Rattle.std.specs.Str.{bytes_eq}
 use Rattle.std.specs.String.{string_bytes}
 use Rattle.std.specs.declared.string.String.{String}
 use Rattle.std.specs.declared.alloc.Global.{Global}
+use Rattle.java_tree.specs.Names.{built_in_names}
+use Rattle.java_tree.specs.Plain.{SourceUnit}
 use Rattle.java_tree.specs.declared.fault.NoMemory.{NoMemory}
-use Rattle.tool_files.specs.Told.{Look, Rose, WhereTold, SameBut, PutsAt, Reads, TellsAbsence}
-use Rattle.tool_files.specs.declared.traits.FileFault.{FileFault}
-use Rattle.tool_files.specs.declared.traits.FileFault.TheVariants as fault
+use Rattle.tool_files.specs.Told.{Look, Rose, WhereTold, SameBut, PutsAt}
+use Rattle.std.specs.Bool.{Decides}
+use Rattle.std.proofs.Math.Bool.{or-false}
+use Rattle.std.proofs.lemmas.Slice.Eq.{bytes_eq-Decides}
+use Rattle.command_words.specs.Names.{is_among, IsIdentifier}
+use Rattle.command_words.specs.Table.{parts_of}
+use Rattle.command_words.specs.declared.table.Command.TheVariants as command
+use Rattle.edit_writer.specs.declared.edits.Edit.{Edit}
 use Rattle.report_text.specs.Report.{refused, edit_report, write_fault}
+use Rattle.java_grammar.specs.Interned.{interned}
+use Rattle.unit_grammar.specs.Sizes as size
+use Rattle.command_words.specs.declared.request.Request as words_of
+use Rattle.command_words.specs.Asked as asked_words
+use Rattle.command_words.specs.Table.{Parts}
+use Rattle.command_words.specs.Rules.{Meets}
+use Rattle.source_files.specs.declared.read.ReadStop.{ReadStop}
+use Rattle.source_files.specs.declared.read.ReadStop.TheVariants as read
+use Rattle.source_files.specs.declared.trees.TreeStop.{TreeStop}
+use Rattle.source_files.specs.declared.trees.TreeStop.TheVariants as tree
+use Rattle.source_files.specs.Held.{AreHeld, AreSmall, Stop, StopsAt, Missing, Failed}
+use Rattle.source_files.specs.Trees.{AreTrees, BreaksAt, Lexical, Tokens, LeftOut, NoTree}
+use Rattle.source_files.specs.Answers as files
 use Rattle.refactor_app.specs.declared.status.Status.{Status}
 use Rattle.refactor_app.specs.declared.status.Status.TheVariants as s
 use Rattle.refactor_app.specs.declared.decide.Changed.{Changed}
-use Rattle.refactor_app.specs.Words.{Request, Asks, out_name}
+use Rattle.refactor_app.specs.Words.{Request, inputs, IsAlone, Asks, AskOther, out_name}
 use Rattle.refactor_app.specs.Verdicts.{Refuses}
-use Rattle.refactor_app.specs.Verdicts as verdict
 use Rattle.refactor_app.specs.Decided.{IsChange}
-use Rattle.refactor_app.specs.Answers.{HasText, IsAbsent, IsThere, Ends}
-use Rattle.refactor_app.specs.Course.{Moment, EndsAt, Finishes, Sequel, Course}
+use Rattle.refactor_app.specs.Refusals.{AsksFew, HasParsed, Refusal}
+use Rattle.refactor_app.specs.Refusals as refusal
+use Rattle.refactor_app.specs.Answers.{Ends}
+use Rattle.refactor_app.specs.Answers as answers
+use Rattle.refactor_app.specs.Course.{Moment, EndsAt, Finishes, Sequel, Course, IsAsked}
 use Rattle.refactor_app.specs.Course as way
+use Rattle.refactor_app.specs.Stops.{EndsOrNot, Stops, TellsStop, IsNamed}
 
 pub refuse : (q : Request) (text line bytes : List ℕ) (a b : Moment) (st : Status) → bytes ≡ line → Refuses q text line → b.holds ≡ a.holds → EndsAt a b bytes s.Refused st → Sequel q text a b st
 refuse q text line bytes a b st e r same ends = way.Sequel.refuses r same (subst (λ (x : List ℕ). EndsAt a b x s.Refused st) e ends)
@@ -30,6 +54,172 @@ finished q text a b st c is (inl h) =
 finished q text a b st c is (inr h) =
     way.Sequel.fails is.changes (subst (λ (n : List ℕ). WhereTold a.holds b.holds (SameBut n)) is.name h.0) h.1 (subst (λ (x : List ℕ). EndsAt a b x s.WriteFault st) is.fault h.2)
 
+-- ---- what is held
+
+pub held_long : (look : Option Look) (before : ℕ) (names texts : List (List ℕ)) → AreHeld look before names texts → length names ≡ length texts
+held_long look before [] texts h = sym (ap length h)
+held_long look before (n ∷ ns) [] h = absurd h
+held_long look before (n ∷ ns) (x ∷ xs) (is, room, more) = ap suc (held_long look (before + length x) ns xs more)
+
+pub held_small : (look : Option Look) (before : ℕ) (names texts : List (List ℕ)) → AreHeld look before names texts → AreSmall texts
+held_small look before [] texts h = subst AreSmall (sym h) tt
+held_small look before (n ∷ ns) [] h = absurd h
+held_small look before (n ∷ ns) (x ∷ xs) (is, room, more) = (room.0, held_small look (before + length x) ns xs more)
+
+-- ---- a request on one file
+
+yes_of : {P : Type 0} (b : Bool) → Decides b P → b ≡ true → P
+yes_of b d e = d.0 e
+
+among_one : (w n : List ℕ) (us ls : List (List ℕ)) → is_among w us ≡ true → us ++ ls ≡ n ∷ [] → us ++ ls ≡ w ∷ []
+among_one w n [] ls is e = absurd (cc)
+among_one w n (u ∷ []) ls is e =
+    let same : w ≡ u = yes_of (bytes_eq w u) (bytes_eq-Decides w u) (sym (or-false (bytes_eq w u)) ∙ is) in
+    let none : ls ≡ [] = cc in
+    rw (none, same) refl
+among_one w n (u ∷ v ∷ vs) ls is e = absurd (cc)
+
+-- FILE is the one file
+pub alone : (words : List (List ℕ)) (q : Request) (n : List ℕ) → Asks words q → inputs q ≡ n ∷ [] → IsAlone q
+alone words q n asks e =
+    let own : slice_get (parts_of asks.rest).own 1 ≡ Some q.file = rw asks.own refl in
+    let among : is_among q.file (parts_of asks.rest).users ≡ true = ((asks.meets 8).places refl).0 1 q.file own in
+    among_one q.file n q.users q.libs (subst (λ (us : List (List ℕ)). is_among q.file us ≡ true) asks.users among) e
+
+pub not_alone : (q : Request) (texts : List (List ℕ)) (look : Option Look) → AreHeld look 0 (inputs q) texts → (length texts ≡ 1 → ⊥) → IsAlone q → ⊥
+not_alone q texts look h many is = many (sym (held_long look 0 (inputs q) texts h) ∙ ap length is)
+
+module _ (words : List (List ℕ)) (q : Request) (text : List ℕ) (names : List (List ℕ)) (u : SourceUnit) (a b : Moment) (st : Status) where
+  -- what becomes of a request on the text is what becomes of the call
+  pub on_alone : HasParsed words a.holds q (text ∷ []) names (u ∷ []) → IsAlone q → Sequel q text a b st → Course words a b st
+  on_alone parsed is (way.Sequel.refuses {line = line} r same ends) = way.Course.refuses (refusal.Refusal.refuses q text names u parsed is r) same ends
+  on_alone parsed is (way.Sequel.writes {made = made} {e = e} c told ends) =
+      way.Course.writes (record { text = text; names = names; unit = u; parsed = parsed; alone = is; changes = c }) told ends
+  on_alone parsed is (way.Sequel.fails {made = made} {e = e} c told rose ends) =
+      way.Course.fails (record { text = text; names = names; unit = u; parsed = parsed; alone = is; changes = c }) told rose ends
+  on_alone parsed is (way.Sequel.no_memory e p none) = way.Course.no_memory e p none
+
+pub map_length : {X Y : Type 0} (f : X → Y) (xs : List X) → length (map f xs) ≡ length xs
+map_length f [] = refl
+map_length f (x ∷ xs) = ap suc (map_length f xs)
+
+trees_long : (names : List (List ℕ)) (first count : ℕ) (texts : List (List ℕ)) (units : List SourceUnit) (new : List (List ℕ))
+    → AreTrees names first count texts units new → length units ≡ length texts
+trees_long names first count [] units new h = ap length h.0
+trees_long names first count (x ∷ xs) [] new h = absurd h
+trees_long names first count (x ∷ xs) (u ∷ us) new (ts, allowed, is, more) =
+    ap suc (trees_long (interned x ts names) (first + size.unit u) (count + length ts) xs us new more)
+
+-- the only one of a list
+only_one : {X : Type 0} (xs : List X) (x : X) → length xs ≡ 1 → x ≡ get_or xs 0 x → xs ≡ x ∷ []
+only_one [] x n e = absurd (omega (arith, n))
+only_one (y ∷ []) x n e = ap (λ z. z ∷ []) (sym e)
+only_one (y ∷ z ∷ zs) x n e = absurd (omega (arith, n))
+
+last_one : {X : Type 0} (xs rest : List X) (x : X) → xs ≡ rest ++ x ∷ [] → length xs ≡ 1 → xs ≡ x ∷ []
+last_one xs [] x e n = e
+last_one xs (y ∷ []) x e n = absurd (omega (arith, n, ap length e))
+last_one xs (y ∷ z ∷ zs) x e n = absurd (omega (arith, n, ap length e))
+
+-- the text, and the tree, of the one file
+pub record IsOneFile (look : Option Look) (q : Request) (text : List ℕ) (names : List (List ℕ)) (u : SourceUnit) : Type 0 where
+  pub held : AreHeld look 0 (inputs q) (text ∷ [])
+  pub trees : AreTrees built_in_names 0 0 (text ∷ []) (u ∷ []) names
+
+pub one_file : {X : Type 0} (view : X → SourceUnit) (look : Option Look) (q : Request) (texts : List (List ℕ)) (text : List ℕ) (names : List (List ℕ)) (units rest : List X) (x : X)
+    → AreHeld look 0 (inputs q) texts → AreTrees built_in_names 0 0 texts (map view units) names → length texts ≡ 1 → text ≡ get_or texts 0 text → units ≡ rest ++ x ∷ []
+    → IsOneFile look q text names (view x)
+one_file view look q texts text names units rest x held trees one is last =
+    let alone_text : texts ≡ text ∷ [] = only_one texts text one is in
+    let many : length units ≡ 1 = sym (map_length view units) ∙ trees_long built_in_names 0 0 texts (map view units) names trees ∙ one in
+    let alone_unit : units ≡ x ∷ [] = last_one units rest x last many in
+    record {
+      held = subst (λ (xs : List (List ℕ)). AreHeld look 0 (inputs q) xs) alone_text held;
+      trees = subst (λ (xs : List (List ℕ)). AreTrees built_in_names 0 0 xs (view x ∷ []) names) alone_text (subst (λ us. AreTrees built_in_names 0 0 texts (map view us) names) alone_unit trees);
+    }
+
+pub one_small : (look : Option Look) (before : ℕ) (names : List (List ℕ)) (text : List ℕ) → AreHeld look before names (text ∷ []) → length text ≤ 1048576
+one_small look before [] text h = absurd (let n = ap length h in omega (arith, n))
+one_small look before (n ∷ ns) text (is, room, more) = room.0
+
+one_input : (look : Option Look) (before : ℕ) (names : List (List ℕ)) (text : List ℕ) → AreHeld look before names (text ∷ []) → (n : List ℕ) × (names ≡ n ∷ [])
+one_input look before [] text h = absurd (let n = ap length h in omega (arith, n))
+one_input look before (n ∷ []) text h = (n, refl)
+one_input look before (n ∷ m ∷ ns) text (is, room, more) = absurd more
+
+module _ (words : List (List ℕ)) (q : Request) (text : List ℕ) (names : List (List ℕ)) (u : SourceUnit) (a b : Moment) (st : Status) where
+  pub on_one : AsksFew words q → IsOneFile a.holds q text names u → Sequel q text a b st → Course words a b st
+  on_one asks is h =
+      let input = one_input a.holds 0 (inputs q) text is.held in
+      on_alone words q text names u a b st (record { read = record { asks = asks; held = is.held }; trees = is.trees }) (alone words q input.0 asks.asks input.1) h
+
+-- TYPE is an identifier
+pub identifier_of : (words : List (List ℕ)) (q : Request) → Asks words q → IsIdentifier q.ty
+identifier_of words q asks =
+    let own : slice_get (parts_of asks.rest).own 4 ≡ Some q.ty = rw asks.own refl in
+    (asks.meets 7).identifiers refl 4 q.ty own
+
+-- the words ask for another command
+pub asks_other : (words : List (List ℕ)) (r : words_of.Request) → asked_words.Asks words r → r.command ≢ command.Generalize → AskOther words
+asks_other words r asks other = record {
+  command = r.command;
+  rest = asks.rest;
+  are = asks.are;
+  other = other;
+  meets = λ n. subst (λ (p : Parts). Meets r.command p n) (sym asks.parts_are) (asks.meets n);
+}
+
+-- ---- what stops a call
+
+-- a report that was made, of which this is so, is put, or there was no memory for it
+pub made_so : (m : Result (String Global) NoMemory) (before after : Option (List ℕ)) (f f' : ℕ) (wanted st : Status) (P : List ℕ → Type 0) → IfOk m (λ r. P (string_bytes r))
+    → IfOk m (λ r. Ends before after f f' (string_bytes r) wanted st) → OnErr m ((st ≡ s.NoMemory) × (after ≡ before))
+    → ((line : List ℕ) × P line × Ends before after f f' line wanted st) ⊎ ((st ≡ s.NoMemory) × (after ≡ before))
+made_so (Ok r) before after f f' wanted st P is ends none = inl (string_bytes r, is, ends)
+made_so (Err e) before after f f' wanted st P is ends none = inr none
+
+pub named_at : {X : Type 0} (f : X → List ℕ) (xs : List X) (k : ℕ) (x : X) → k < length xs → x ≡ get_or xs k x → slice_get (map f xs) k ≡ Some (f x)
+named_at f [] k x lt e = absurd (omega (arith, lt))
+named_at f (y ∷ ys) zero x lt e = ap (λ z. Some (f z)) (sym e)
+named_at f (y ∷ ys) (suc k) x lt e = named_at f ys k x (omega (arith, lt)) e
+
+stops_low : (look : Option Look) (before : ℕ) (names : List (List ℕ)) (k : ℕ) (why : Stop) → StopsAt look before names k why → k < length names
+stops_low look before [] k why h = absurd h
+stops_low look before (n ∷ ns) zero why h = omega arith
+stops_low look before (n ∷ ns) (suc k) why (text, holds, room, more) = let le = stops_low look (before + length text) ns k why more in omega arith
+
+pub stop_named : (look : Option Look) (names : List (List ℕ)) (stop : ReadStop) → files.HasRead look names (Err stop) → IsNamed (length names) stop
+stop_named look names (read.Missing k) h = stops_low look 0 names k Missing h
+stop_named look names (read.Failed k) h = stops_low look 0 names k Failed h
+stop_named look names read.TooLarge h = tt
+stop_named look names read.TooMuch h = tt
+stop_named look names read.NoMemory h = tt
+
+pub broken : (words : List (List ℕ)) (look : Option Look) (q : Request) (texts : List (List ℕ)) (stop : TreeStop) (line : List ℕ) → refusal.HasRead words look q texts
+    → files.HasParsed texts (Err stop) → TellsStop q texts stop line → Refusal words look line
+broken words look q texts (tree.Lexical rule file at) line r h t = refusal.Refusal.broken q texts file (Lexical rule at) r h t
+broken words look q texts tree.Tokens line r h t = refusal.Refusal.broken q texts h.0 Tokens r h.1 t
+broken words look q texts (tree.LeftOut rule file at) line r h t = refusal.Refusal.broken q texts file (LeftOut rule at) r h t
+broken words look q texts (tree.NoTree file at) line r h t = refusal.Refusal.broken q texts file (NoTree at) r h t
+broken words look q texts tree.NoMemory line r h t = absurd t
+
+pub stopped : (words : List (List ℕ)) (q : Request) (a b : Moment) (st : Status) (stop : ReadStop) → AsksFew words q → files.HasRead a.holds (inputs q) (Err stop)
+    → (files.IsMissing (Err stop) → Rose a.misses b.misses) → (files.IsFailed (Err stop) → Rose a.read_faults b.read_faults) → b.holds ≡ a.holds
+    → Stops (inputs q) stop a.put b.put a.faults b.faults st → Course words a b st
+stopped words q a b st (read.Missing k) asks h missed failed same (name, named, ends) = elim ends [
+  | inl e ↦ way.Course.absent k name asks named h (missed tt) same e
+  | inr none ↦ way.Course.no_memory same none.1 none.0
+]
+stopped words q a b st (read.Failed k) asks h missed failed same (name, named, ends) = elim ends [
+  | inl e ↦ way.Course.unread k name asks named h (failed tt) same e
+  | inr none ↦ way.Course.no_memory same none.1 none.0
+]
+stopped words q a b st read.TooLarge asks h missed failed same ends = way.Course.refuses (refusal.Refusal.l2 q h.0 asks h.1) same ends
+stopped words q a b st read.TooMuch asks h missed failed same ends = way.Course.refuses (refusal.Refusal.l3 q h.0 asks h.1) same ends
+stopped words q a b st read.NoMemory asks h missed failed same none = way.Course.no_memory same none.1 none.0
+
+-- ---- a call that begins earlier
+
 rose_later : (a b c : ℕ) → a ≤ b → Rose b c → Rose a c
 rose_later a b c le (inl h) = inl (omega arith)
 rose_later a b c le (inr h) = inr h
@@ -38,53 +228,43 @@ ends_from : (a m b : Moment) (line : List ℕ) (wanted st : Status) → m.put �
 ends_from a m b line wanted st put faults ends =
     subst (λ (p : Option (List ℕ)). Ends p b.put a.faults b.faults line wanted st) put (subst (λ (f : ℕ). Ends m.put b.put f b.faults line wanted st) faults ends)
 
--- a text was read, and the call goes on
-pub goes_on : (words : List (List ℕ)) (q : Request) (text : List ℕ) (a m b : Moment) (st : Status) → Asks words q → HasText a.holds q text → m.holds ≡ a.holds
-    → a.write_faults ≤ m.write_faults → m.put ≡ a.put → m.faults ≡ a.faults → Sequel q text m b st → Course words a b st
-goes_on words q text a m b st asks there same le put faults (way.Sequel.refuses {line = line} r e ends) =
-    way.Course.refuses asks there r (e ∙ same) (ends_from a m b line s.Refused st put faults ends)
-goes_on words q text a m b st asks there same le put faults (way.Sequel.writes {made = made} {e = x} c told ends) =
-    way.Course.writes asks there c (subst (λ (h : Option Look). WhereTold h b.holds (PutsAt (out_name q) made)) same told) (ends_from a m b (edit_report q.file x) s.Done st put faults ends)
-goes_on words q text a m b st asks there same le put faults (way.Sequel.fails {made = made} {e = x} c told rose ends) =
-    way.Course.fails asks there c (subst (λ (h : Option Look). WhereTold h b.holds (SameBut (out_name q))) same told) (rose_later a.write_faults m.write_faults b.write_faults le rose)
-    (ends_from a m b (write_fault (out_name q)) s.WriteFault st put faults ends)
-goes_on words q text a m b st asks there same le put faults (way.Sequel.no_memory e p is) = way.Course.no_memory (e ∙ same) (p ∙ put) is
+-- what was read changed nothing
+pub record IsAfter (a m : Moment) : Type 0 where
+  pub holds : m.holds ≡ a.holds
+  pub misses : a.misses ≤ m.misses
+  pub read_faults : a.read_faults ≤ m.read_faults
+  pub write_faults : a.write_faults ≤ m.write_faults
+  pub put : m.put ≡ a.put
+  pub faults : m.faults ≡ a.faults
 
-take_all : (n : ℕ) (xs : List ℕ) → length (take n xs) < n → take n xs ≡ xs
-take_all zero xs lt = absurd (omega arith)
-take_all (suc n) [] lt = refl
-take_all (suc n) (x ∷ xs) lt = ap (λ (ys : List ℕ). x ∷ ys) (take_all n xs (omega arith))
+module _ (words : List (List ℕ)) (a m b : Moment) (st : Status) (after : IsAfter a m) where
+  asked_from : (q : Request) (made : List ℕ) (e : Edit) → IsAsked words m q made e → IsAsked words a q made e
+  asked_from q made e h = record {
+    text = h.text;
+    names = h.names;
+    unit = h.unit;
+    parsed = subst (λ (look : Option Look). HasParsed words look q (h.text ∷ []) h.names (h.unit ∷ [])) after.holds h.parsed;
+    alone = h.alone;
+    changes = h.changes;
+  }
 
-take_less : (n : ℕ) (xs : List ℕ) → length (take n xs) ≤ length xs
-take_less zero xs = omega arith
-take_less (suc n) [] = omega arith
-take_less (suc n) (x ∷ xs) = let h = take_less n xs in omega arith
-
--- all of a file was read
-pub short : (holds : Option Look) (q : Request) (text : List ℕ) → Reads holds q.file 1048577 [] text → length text ≤ 1048576 → HasText holds q text
-short None q text r le = tt
-short (Some look) q text r le = r.1 ∙ ap Some (sym (r.2 ∙ take_all 1048577 r.0 (omega (arith, ap length r.2))))
-
--- a file is too long
-pub long : (holds : Option Look) (q : Request) (text : List ℕ) → Reads holds q.file 1048577 [] text → 1048576 < length text
-    → (bytes : List ℕ) × HasText holds q bytes × (1048576 < length bytes)
-long None q text r lt = (text, tt, lt)
-long (Some look) q text r lt = (r.0, r.1, let le = take_less 1048577 r.0 in omega (arith, ap length r.2))
-
-pub too_long : (q : Request) (text : List ℕ) → 1048576 < length text → Refuses q text (refused (codes "N2"))
-too_long q text lt = verdict.n2 (λ p small c named. let le = small.size in omega arith)
-
-pub absent_of : (holds : Option Look) (q : Request) (r : Result (Unit {0}) FileFault) → TellsAbsence holds q.file r → r ≡ Err fault.Missing → IsAbsent holds q
-absent_of None q r t e = tt
-absent_of (Some look) q r t e = t.0 e
-
-pub there_of : (holds : Option Look) (q : Request) (r : Result (Unit {0}) FileFault) → TellsAbsence holds q.file r → r ≡ Err fault.Failed → IsThere holds q
-there_of None q r t e = tt
-there_of (Some look) q r t e = by_case (look q.file) t.1
-  where
-    by_case : (o : Option (List ℕ)) → (o ≡ None → (r ≡ Err fault.Missing) ⊎ (r ≡ Err fault.NoMemory)) → (text : List ℕ) × (o ≡ Some text)
-    by_case (Some text) t = (text, refl)
-    by_case None t = elim (t refl) [ inl f ↦ absurd (cc (e, f)) | inr f ↦ absurd (cc (e, f)) ]
+  pub from_before : Course words m b st → Course words a b st
+  from_before (way.Course.usages low same ends) = way.Course.usages low (same ∙ after.holds) (ends_from a m b _ _ st after.put after.faults ends)
+  from_before (way.Course.absent {q = q} k name asks named absent rose same ends) =
+      way.Course.absent k name asks named (subst (λ (look : Option Look). files.HasRead look (inputs q) (Err (read.Missing k))) after.holds absent)
+      (rose_later a.misses m.misses b.misses after.misses rose) (same ∙ after.holds) (ends_from a m b _ _ st after.put after.faults ends)
+  from_before (way.Course.unread {q = q} k name asks named unread rose same ends) =
+      way.Course.unread k name asks named (subst (λ (look : Option Look). files.HasRead look (inputs q) (Err (read.Failed k))) after.holds unread)
+      (rose_later a.read_faults m.read_faults b.read_faults after.read_faults rose) (same ∙ after.holds) (ends_from a m b _ _ st after.put after.faults ends)
+  from_before (way.Course.refuses {line = line} r same ends) =
+      way.Course.refuses (subst (λ (look : Option Look). Refusal words look line) after.holds r) (same ∙ after.holds) (ends_from a m b line s.Refused st after.put after.faults ends)
+  from_before (way.Course.writes {q = q} {made = made} {e = x} c told ends) =
+      way.Course.writes (asked_from q made x c) (subst (λ (h : Option Look). WhereTold h b.holds (PutsAt (out_name q) made)) after.holds told)
+      (ends_from a m b (edit_report q.file x) s.Done st after.put after.faults ends)
+  from_before (way.Course.fails {q = q} {made = made} {e = x} c told rose ends) =
+      way.Course.fails (asked_from q made x c) (subst (λ (h : Option Look). WhereTold h b.holds (SameBut (out_name q))) after.holds told)
+      (rose_later a.write_faults m.write_faults b.write_faults after.write_faults rose) (ends_from a m b (write_fault (out_name q)) s.WriteFault st after.put after.faults ends)
+  from_before (way.Course.no_memory same put is) = way.Course.no_memory (same ∙ after.holds) (put ∙ after.put) is
 
 -- a report that was made is put, or there was no memory for it
 pub made : (m : Result (String Global) NoMemory) (before after : Option (List ℕ)) (f f' : ℕ) (line : List ℕ) (wanted st : Status) → IfOk m (λ r. string_bytes r ≡ line)

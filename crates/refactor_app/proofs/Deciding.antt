@@ -7,8 +7,8 @@ use Rattle.java_tree.specs.declared.tree.Head.TheVariants as head
 use Rattle.java_tree.specs.Names.{AreDistinct}
 use Rattle.java_tree.specs.Plain as t
 use Rattle.java_tree.specs.View.{unit_plain}
-use Rattle.small_lexer.specs.Pieces.{IsIdentifier}
-use Rattle.small_lexer.proofs.TokenLemmas.{within}
+use Rattle.small_programs.specs.Texts.{IsIdentifier}
+use Rattle.small_programs.proofs.TokenLemmas.{within}
 use Rattle.edit_writer.specs.declared.places.Place.{Place}
 use Rattle.edit_writer.specs.Places.{place_at}
 use Rattle.edit_writer.proofs.Lines.{low_place}
@@ -151,7 +151,7 @@ pub fits : (q : Request) (text : List ℕ) (e : SmallEdit) → IsPlanned q text 
 fits q text e is =
     let d = is.plan.named.declared in
     let lexes = is.small.read.lexes.lexes in
-    let tok = local_token is.program.names is.program.toks is.program.unit is.small.read.spells d.node d.type_node d.is_final d.written is.plan.x.head d.args d.dims (d.var ∷ []) d.stands in
+    let tok = local_token is.program.names text is.program.toks is.program.unit is.small.read.spells d.node d.type_node d.is_final d.written is.plan.x.head d.args d.dims (d.var ∷ []) d.stands in
     let in_text = within is.program.names text is.program.toks lexes tok.0 tok.1 tok.2 in
     let from : tok.1.span.from ≡ e.from = ap (λ (x : Span). x.from) tok.4 ∙ sym is.plan.from in
     let to : tok.1.span.to ≡ e.to = ap (λ (x : Span). x.to) tok.4 ∙ sym is.plan.to in

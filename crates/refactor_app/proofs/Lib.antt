@@ -1,8 +1,8 @@
-pub mod Numbers
-pub mod Asking
-pub mod Courses
 pub mod Answering
-pub mod Smalls
+pub mod Asking
 pub mod Changing
+pub mod Courses
 pub mod Deciding
+pub mod Faults
 pub mod OneVerdict
+pub mod Smalls

@@ -7,7 +7,7 @@ use Rattle.java_tree.specs.declared.tree.Span.{Span}
 use Rattle.java_tree.specs.Names.{AreDistinct}
 use Rattle.java_tree.specs.Plain as t
 use Rattle.java_tree.specs.Plain.{Stmt}
-use Rattle.small_lexer.proofs.TokenLemmas.{within}
+use Rattle.small_programs.proofs.TokenLemmas.{within}
 use Rattle.edit_writer.specs.declared.edits.Edit.{Edit}
 use Rattle.edit_writer.specs.Edits.{edited}
 use Rattle.edit_writer.specs.Places.{place_at}
@@ -46,7 +46,7 @@ module _ (text : List ℕ) (p : Program) (small : IsSmall text p) where
 
   head_within : (x : Local) → Declares p.unit x → x.head.from < length text
   head_within x d =
-      let tok = local_token p.names p.toks p.unit small.read.spells d.node d.type_node d.is_final d.written x.head d.args d.dims (d.var ∷ []) d.stands in
+      let tok = local_token p.names text p.toks p.unit small.read.spells d.node d.type_node d.is_final d.written x.head d.args d.dims (d.var ∷ []) d.stands in
       let at = within p.names text p.toks small.read.lexes.lexes tok.0 tok.1 tok.2 in
       let same = ap (λ (s : Span). s.from) tok.4 in
       omega (arith, same, at.0, at.1)
@@ -74,7 +74,7 @@ module _ (text : List ℕ) (p : Program) (small : IsSmall text p) where
       let from : x.head.from ≡ y.head.from = one_place text x.head.from y.head.from (head_within x d) (head_within y e) (a.begins ∙ sym b.begins) in
       let s : Stmt = t.Local d.node d.is_final (t.Written d.type_node d.written x.head d.args d.dims) (d.var ∷ []) in
       let s' : Stmt = t.Local e.node e.is_final (t.Written e.type_node e.written y.head e.args e.dims) (e.var ∷ []) in
-      let same : s ≡ s' = one_local p.names p.toks order p.unit small.read.spells s s' d.stands e.stands x.head y.head refl refl from in
+      let same : s ≡ s' = one_local p.names text p.toks order p.unit small.read.spells s s' d.stands e.stands x.head y.head refl refl from in
       let name : Some d.var.name ≡ Some e.var.name = ap var_in same in
       let ty : Some x.ty ≡ Some y.ty = sym d.ty ∙ ap type_in same ∙ e.ty in
       let names : d.var.name ≡ e.var.name = cc name in
@@ -85,7 +85,7 @@ module _ (text : List ℕ) (p : Program) (small : IsSmall text p) where
   one_first x target kind kind' n m a b =
       let low = a.1 kind' m b.0 in
       let high = b.1 kind n a.0 in
-      one_unmet p.names p.toks order p.unit small.read.spells (world_of p.unit) x target kind kind' n m a.0 b.0 (omega (arith, low, high))
+      one_unmet p.names text p.toks order p.unit small.read.spells (world_of p.unit) x target kind kind' n m a.0 b.0 (omega (arith, low, high))
 
 -- ---- verdicts of one program and one type
 

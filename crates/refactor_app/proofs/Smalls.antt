@@ -1,39 +1,55 @@
 -- One text has one small program.
-use Rattle.std.proofs.Common.{◌≡◌, ℕ, ◌<◌, ◌≤◌, Bool, true, false, cond, List, [], ◌∷◌, length, refl, sym, subst, arith}
+use Rattle.std.proofs.Common.{◌≡◌, ℕ, ◌<◌, ◌≤◌, Bool, true, false, List, [], ◌∷◌, length, refl, sym, ◌∙◌, ap, subst, arith}
 use Rattle.java_tree.specs.Names.{AreDistinct, IsTable, built_in_names, with_text}
 use Rattle.java_tree.proofs.Tables.{built_in_table, with_text_table}
 use Rattle.java_tree.specs.View.{unit_plain}
 use Rattle.java_tree.specs.declared.tree.SourceUnit.{SourceUnit}
+use Rattle.java_tree.specs.declared.tree.Token.{Token}
+use Rattle.java_tree.specs.declared.tree.Kind.{Kind}
+use Rattle.java_tree.specs.declared.tree.Kind.TheVariants as kind
 use Rattle.java_tree.specs.Plain as t
-use Rattle.small_lexer.specs.declared.token.Tok.{Tok}
-use Rattle.small_lexer.specs.Lexing.{Lexes, LexesFirst, with_piece, interned}
-use Rattle.small_lexer.specs.Pieces.{Piece, Blank, Word, Text, Mark, is_reserved}
-use Rattle.small_lexer.proofs.TokenLemmas.{count}
-use Rattle.small_lexer.proofs.LexLemmas.{one_first}
-use Rattle.small_parser.specs.Grammar.{Spells}
-use Rattle.small_parser.proofs.Complete.{one}
+use Rattle.java_lexer.specs.Lexing as lexer
+use Rattle.unit_grammar.specs.Numbers as numbers
+use Rattle.unit_grammar.specs.Declarations.{SpellsUnit}
+use Rattle.java_lexer.proofs.TokenLemmas.{one_tokens, never_both}
+use Rattle.java_grammar.specs.declared.token.Tok.{Tok}
+use Rattle.java_grammar.specs.Sorts.{AreToks, bytes_in}
+use Rattle.java_grammar.specs.Interned.{interned, with_word}
+use Rattle.java_grammar.proofs.Reading.{one_toks}
+use Rattle.small_programs.specs.Texts.{Lexes, LexesFirst}
+use Rattle.small_programs.proofs.LexLemmas.{one_first}
+use Rattle.small_programs.specs.Grammar.{Spells}
+use Rattle.small_programs.proofs.OneTree.{one_tree}
 use Rattle.java_typing.specs.WorldOf.{world_of}
 use Rattle.java_typing.specs.Declarations.{DeclarationsHold}
 use Rattle.java_typing.specs.Typing.{StepsHold}
-use Rattle.refactor_app.specs.Program.{Program, IsRead}
-use Rattle.refactor_app.specs.Small.{HasTree, IsNoProgram, program_of}
+use Rattle.refactor_app.specs.Program.{Program, IsTree, IsRead}
+use Rattle.refactor_app.specs.Small.{HasUnit, HasTree, IsNoProgram, program_of}
 
--- no tokens, no program
-pub no_tokens : (text : List ℕ) → ((table : List (List ℕ)) (ts : List Tok) → Lexes table text ts → ⊥) → IsNoProgram text
-no_tokens text none p small = none p.names p.toks small.read.lexes.lexes
+with_word_table : (k : Kind) (w : List ℕ) (names : List (List ℕ)) → IsTable names → IsTable (with_word k w names)
+with_word_table kind.Word w names is = with_text_table w names is
+with_word_table kind.Keyword w names is = is
+with_word_table kind.Int w names is = is
+with_word_table kind.Long w names is = is
+with_word_table kind.Float w names is = is
+with_word_table kind.Char w names is = is
+with_word_table kind.Text w names is = is
+with_word_table kind.Op w names is = is
 
--- no tree of the one list of tokens, no program
-pub no_tree : (text : List ℕ) (names : List (List ℕ)) (ts : List Tok) → AreDistinct names → LexesFirst names text ts → ((u : t.SourceUnit) → Spells names ts u → ⊥) → IsNoProgram text
-no_tree text names ts d x none p small =
-    let same = one_first built_in_names names p.names text ts p.toks d x small.read.lexes in
-    none p.unit (subst (λ (n : List (List ℕ)). Spells n ts p.unit) (sym same.0) (subst (λ (us : List Tok). Spells p.names us p.unit) (sym same.1) small.read.spells))
+interned_table : (text : List ℕ) (xs : List Token) (names : List (List ℕ)) → IsTable names → IsTable (interned text xs names)
+interned_table text [] names is = is
+interned_table text (x ∷ xs) names is = interned_table text xs (with_word x.kind (bytes_in text x.span) names) (with_word_table x.kind (bytes_in text x.span) names is)
+
+-- the table of a text's names
+pub first_table : (names : List (List ℕ)) (text : List ℕ) (ts : List Tok) → LexesFirst names text ts → IsTable names
+first_table names text ts x = subst IsTable (sym x.after) (interned_table text x.lexes.tokens built_in_names built_in_table)
 
 -- two programs of one text are one
 pub one_program : (text : List ℕ) (p q : Program) → AreDistinct p.names → IsRead text p → IsRead text q → p ≡ q
 one_program text p q d x y =
     let same = one_first built_in_names p.names q.names text p.toks q.toks d x.lexes y.lexes in
-    let spelled = subst (λ (n : List (List ℕ)). Spells n p.toks q.unit) (sym same.0) (subst (λ (us : List Tok). Spells q.names us q.unit) (sym same.1) y.spells) in
-    let unit = one p.names p.toks p.unit q.unit x.spells spelled in
+    let spelled = subst (λ (n : List (List ℕ)). Spells n text p.toks q.unit) (sym same.0) (subst (λ (us : List Tok). Spells q.names text us q.unit) (sym same.1) y.spells) in
+    let unit = one_tree p.names text p.toks p.unit q.unit x.spells spelled in
     rw (same.0, same.1, unit) refl
 
 -- a program whose rules are broken is none
@@ -45,23 +61,43 @@ broken text names u d x none p small =
     let steps = subst (λ (p : Program). StepsHold p.unit (world_of p.unit)) (sym same) small.checked.steps in
     none holds steps
 
-with_piece_table : (names : List (List ℕ)) (p : Piece) → IsTable names → IsTable (with_piece names p)
-with_piece_table names (Blank b) is = is
-with_piece_table names (Mark b) is = is
-with_piece_table names (Text x) is = with_text_table x names is
-with_piece_table names (Word w) is = by_test (is_reserved w)
-  where
-    by_test : (b : Bool) → IsTable (cond b names (with_text w names))
-    by_test true = is
-    by_test false = with_text_table w names is
+-- no tokens, no program
+pub no_tokens : (text : List ℕ) (rule at : ℕ) → lexer.Fails text rule at → IsNoProgram text
+no_tokens text rule at fails p small = never_both text small.read.lexes.lexes.tokens rule at small.read.lexes.lexes.lexes fails
 
-interned_table : (names : List (List ℕ)) (ps : List Piece) → IsTable names → IsTable (interned names ps)
-interned_table names [] is = is
-interned_table names (p ∷ ps) is = interned_table (with_piece names p) ps (with_piece_table names p is)
+module _ (text : List ℕ) (names : List (List ℕ)) (u : SourceUnit) (has : HasUnit text names u) where
+  -- a small program's tokens are those that the tree was read from
+  same_tokens : (ns : List (List ℕ)) (ts : List Tok) (x : Lexes ns text ts) → x.tokens ≡ has.0
+  same_tokens ns ts x = one_tokens text x.tokens has.0 x.lexes has.1.lexes
 
--- the table of a text's names
-pub first_table : (names : List (List ℕ)) (text : List ℕ) (ts : List Tok) → LexesFirst names text ts → IsTable names
-first_table names text ts x = subst IsTable (sym x.after) (interned_table built_in_names x.lexes.pieces built_in_table)
+  table : names ≡ interned text has.0 built_in_names
+  table = has.3.1
 
-pub few_tokens : (names : List (List ℕ)) (text : List ℕ) (ts : List Tok) → LexesFirst names text ts → length text ≤ 1048576 → length ts < 134217728
-few_tokens names text ts x le = let h = count names text ts x.lexes in omega arith
+  pub is_table : IsTable names
+  is_table = subst IsTable (sym table) (interned_table text has.0 built_in_names built_in_table)
+
+  pub spelled : (ts : List Tok) × AreToks text names has.0 ts × (y : t.SourceUnit) × SpellsUnit text ts y × (unit_plain u ≡ (numbers.unit y 0).0)
+  spelled = let unit = has.2 in (unit.0, subst (λ (n : List (List ℕ)). AreToks text n has.0 unit.0) (sym table) unit.1, unit.2, unit.3, unit.5)
+
+  -- the tokens of the text
+  pub tokens_are : (xs : List Token) → lexer.Lexes text xs → xs ≡ has.0
+  tokens_are xs lexes = one_tokens text xs has.0 lexes has.1.lexes
+
+  -- what is small by its tokens is the text's program
+  pub small_tree : (ts : List Tok) → Lexes names text ts → Spells names text ts (unit_plain u) → HasTree text names u
+  small_tree ts lexes spells =
+      let tokens = same_tokens names ts lexes in
+      let unit = has.2 in
+      let toks : AreToks text names has.0 unit.0 = subst (λ (n : List (List ℕ)). AreToks text n has.0 unit.0) (sym table) unit.1 in
+      let toks_too : AreToks text names has.0 ts = subst (λ (xs : List Token). AreToks text names xs ts) tokens lexes.toks in
+      let same : unit.0 ≡ ts = one_toks text names is_table.distinct has.0 unit.0 ts toks toks_too in
+      let tree : IsTree text ts (unit_plain u) = subst (λ (us : List Tok). IsTree text us (unit_plain u)) same (unit.2, unit.3, unit.4, unit.5) in
+      (ts, record { lexes = record { lexes = lexes; after = table ∙ ap (λ (xs : List Token). interned text xs built_in_names) (sym tokens) }; tree = tree; spells = spells })
+
+  -- where nothing is small by its tokens there is no program
+  pub no_small_tree : ((ts : List Tok) (v : t.SourceUnit) → Lexes names text ts → Spells names text ts v → ⊥) → IsNoProgram text
+  no_small_tree none p small =
+      let x = small.read.lexes in
+      let tokens = same_tokens p.names p.toks x.lexes in
+      let same : p.names ≡ names = x.after ∙ ap (λ (xs : List Token). interned text xs built_in_names) tokens ∙ sym table in
+      none p.toks p.unit (subst (λ (n : List (List ℕ)). Lexes n text p.toks) same x.lexes) (subst (λ (n : List (List ℕ)). Spells n text p.toks p.unit) same small.read.spells)

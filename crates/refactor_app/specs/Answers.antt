@@ -1,27 +1,16 @@
 -- What an answer of `refactor` says of the words, of what the files held and hold, and of what was put.
-use Rattle.std.specs.Prelude.{◌≡◌, ℕ, ◌⊎◌, List, Option, Some, None, codes}
+use Rattle.std.specs.Prelude.{◌≡◌, ℕ, ◌⊎◌, List, [], ◌∷◌, Option, Some, None, slice_get}
+use Rattle.java_tree.specs.Plain.{SourceUnit}
 use Rattle.tool_files.specs.Told.{Look, Rose, SameBut, WhereTold, PutsAt, Appends, AppendsSome}
+use Rattle.command_words.specs.Rules.{IsLowest}
 use Rattle.edit_writer.specs.declared.edits.Edit.{Edit}
+use Rattle.source_files.specs.Held.{StopsAt, Missing, Failed}
 use Rattle.refactor_app.specs.declared.status.Status.{Status}
 use Rattle.refactor_app.specs.declared.status.Status.TheVariants as s
-use Rattle.refactor_app.specs.Words.{Request, Asks, out_name}
-use Rattle.report_text.specs.Report.{refused, edit_report, missing, read_fault, write_fault}
-use Rattle.refactor_app.specs.Verdicts.{Refuses, Changes}
-
--- the named file has this text, where contents are told
-abbrev pub HasText : Option Look → Request → List ℕ → Type 0
-HasText None q text = Unit {0}
-HasText (Some look) q text = look q.file ≡ Some text
-
--- the named file is absent, where contents are told
-abbrev pub IsAbsent : Option Look → Request → Type 0
-IsAbsent None q = Unit {0}
-IsAbsent (Some look) q = look q.file ≡ None
-
--- the named file is there, where contents are told
-abbrev pub IsThere : Option Look → Request → Type 0
-IsThere None q = Unit {0}
-IsThere (Some look) q = (text : List ℕ) × (look q.file ≡ Some text)
+use Rattle.refactor_app.specs.Words.{Request, inputs, IsAlone, out_name}
+use Rattle.report_text.specs.Report.{usage, edit_report, missing, read_fault, write_fault}
+use Rattle.refactor_app.specs.Verdicts.{Changes}
+use Rattle.refactor_app.specs.Refusals.{AsksFew, HasParsed, Refusal}
 
 -- the contents before and after, and what was put before and after
 module _ (words : List (List ℕ)) (old new : Option Look) (before after : Option (List ℕ)) where
@@ -32,65 +21,72 @@ module _ (words : List (List ℕ)) (old new : Option Look) (before after : Optio
   abbrev pub Puts : List ℕ → Type 0
   Puts report = Appends before after report
 
+  -- the lowest rule that the words break
+  pub record IsUsage : Type 0 where
+    pub rule : ℕ
+    pub lowest : IsLowest words rule
+    pub report : Puts (usage rule)
+    pub nothing : NothingWritten
+
+  -- the change of a file, its only one, that is asked for
+  pub record IsChange (q : Request) (made : List ℕ) (edit : Edit) : Type 0 where
+    pub text : List ℕ
+    pub names : List (List ℕ)
+    pub unit : SourceUnit
+    pub parsed : HasParsed words old q (text ∷ []) names (unit ∷ [])
+    pub alone : IsAlone q
+    pub changes : Changes q text made edit
+
   -- Done: the new file holds the text of the edit, every other name is as before, and the report tells the edit.
   pub record IsDone : Type 0 where
     pub q : Request
-    pub asks : Asks words q
-    pub text : List ℕ
-    pub there : HasText old q text
     pub made : List ℕ
     pub edit : Edit
-    pub changes : Changes q text made edit
+    pub change : IsChange q made edit
     pub written : WhereTold old new (PutsAt (out_name q) made)
     pub report : Puts (edit_report q.file edit)
 
-  -- N1: the words are no request
-  pub record IsNoRequest : Type 0 where
-    pub none : (q : Request) → Asks words q → ⊥
-    pub report : Puts (refused (codes "N1"))
-
-  -- the first rule that stands against the request on the file's text
-  pub record IsRefusal : Type 0 where
-    pub q : Request
-    pub asks : Asks words q
-    pub text : List ℕ
-    pub there : HasText old q text
+  -- the first rule that stands against the words and the files
+  pub record IsRefused : Type 0 where
     pub line : List ℕ
-    pub refuses : Refuses q text line
+    pub refusal : Refusal words old line
     pub report : Puts line
-
-  abbrev pub IsRefused : Type 0
-  IsRefused = (IsNoRequest ⊎ IsRefusal) × NothingWritten
-
-  pub record IsMissing : Type 0 where
-    pub q : Request
-    pub asks : Asks words q
-    pub absent : IsAbsent old q
-    pub report : Puts (missing q.file)
     pub nothing : NothingWritten
 
+  -- the first file that is absent
+  pub record IsMissing : Type 0 where
+    pub q : Request
+    pub asks : AsksFew words q
+    pub file : ℕ
+    pub name : List ℕ
+    pub named : slice_get (inputs q) file ≡ Some name
+    pub absent : StopsAt old 0 (inputs q) file Missing
+    pub report : Puts (missing name)
+    pub nothing : NothingWritten
+
+  -- the first file whose read failed
   pub record IsReadFault : Type 0 where
     pub q : Request
-    pub asks : Asks words q
-    pub there : IsThere old q
-    pub report : Puts (read_fault q.file)
+    pub asks : AsksFew words q
+    pub file : ℕ
+    pub name : List ℕ
+    pub named : slice_get (inputs q) file ≡ Some name
+    pub unread : StopsAt old 0 (inputs q) file Failed
+    pub report : Puts (read_fault name)
     pub nothing : NothingWritten
 
   -- the write of the new file failed; every other name is as before
   pub record IsWriteFault : Type 0 where
     pub q : Request
-    pub asks : Asks words q
-    pub text : List ℕ
-    pub there : HasText old q text
     pub made : List ℕ
     pub edit : Edit
-    pub changes : Changes q text made edit
+    pub change : IsChange q made edit
     pub others : WhereTold old new (SameBut (out_name q))
     pub report : Puts (write_fault (out_name q))
 
   -- what would have become of the call, had the put of its report not failed
   abbrev pub IsOne : Type 0
-  IsOne = IsDone ⊎ IsRefused ⊎ IsMissing ⊎ IsReadFault ⊎ IsWriteFault
+  IsOne = IsDone ⊎ IsRefused ⊎ IsUsage ⊎ IsMissing ⊎ IsReadFault ⊎ IsWriteFault
 
 -- OutFault: the files are as for the answer that would have come, and of its report a front was put.
 pub record IsOutFault (words : List (List ℕ)) (old new : Option Look) (before after : Option (List ℕ)) : Type 0 where

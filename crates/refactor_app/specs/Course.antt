@@ -1,15 +1,18 @@
 -- The ways that a call goes, each with what it puts last and how it ends.
-use Rattle.std.specs.Prelude.{◌≡◌, ℕ, ◌⊎◌, List, Option, codes}
+use Rattle.std.specs.Prelude.{◌≡◌, ℕ, ◌⊎◌, List, Option, Some, slice_get}
 use Rattle.std.specs.String.{string_bytes}
 use Rattle.refactor_app.specs.declared.decide.Changed.{Changed}
 use Rattle.tool_files.specs.Told.{Look, Rose, SameBut, WhereTold, PutsAt}
+use Rattle.command_words.specs.Rules.{IsLowest}
 use Rattle.edit_writer.specs.declared.edits.Edit.{Edit}
-use Rattle.report_text.specs.Report.{refused, edit_report, missing, read_fault, write_fault}
+use Rattle.source_files.specs.Held.{StopsAt, Missing, Failed}
+use Rattle.report_text.specs.Report.{usage, edit_report, missing, read_fault, write_fault}
 use Rattle.refactor_app.specs.declared.status.Status.{Status}
 use Rattle.refactor_app.specs.declared.status.Status.TheVariants as s
-use Rattle.refactor_app.specs.Words.{Request, Asks, out_name}
+use Rattle.refactor_app.specs.Words.{Request, inputs, out_name}
 use Rattle.refactor_app.specs.Verdicts.{Refuses, Changes}
-use Rattle.refactor_app.specs.Answers.{HasText, IsAbsent, IsThere, Ends}
+use Rattle.refactor_app.specs.Refusals.{AsksFew, Refusal}
+use Rattle.refactor_app.specs.Answers.{IsChange, Ends}
 
 -- The files before and after, what was put before and after, and each count before and after.
 pub record Moment : Type 0 where
@@ -23,14 +26,20 @@ pub record Moment : Type 0 where
 abbrev pub EndsAt : Moment → Moment → List ℕ → Status → Status → Type 0
 EndsAt a b = Ends a.put b.put a.faults b.faults
 
+-- a change that is asked for of what the files held first
+abbrev pub IsAsked : List (List ℕ) → Moment → Request → List ℕ → Edit → Type 0
+IsAsked words a = IsChange words a.holds a.holds a.put a.put
+
 pub data Course (words : List (List ℕ)) (a b : Moment) (status : Status) : Type 0 where
-  no_request : ((q : Request) → Asks words q → ⊥) → b.holds ≡ a.holds → EndsAt a b (refused (codes "N1")) s.Refused status → Course words a b status
-  absent : {q : Request} → Asks words q → IsAbsent a.holds q → Rose a.misses b.misses → b.holds ≡ a.holds → EndsAt a b (missing q.file) s.Missing status → Course words a b status
-  unread : {q : Request} → Asks words q → IsThere a.holds q → Rose a.read_faults b.read_faults → b.holds ≡ a.holds → EndsAt a b (read_fault q.file) s.ReadFault status → Course words a b status
-  refuses : {q : Request} {text line : List ℕ} → Asks words q → HasText a.holds q text → Refuses q text line → b.holds ≡ a.holds → EndsAt a b line s.Refused status → Course words a b status
-  writes : {q : Request} {text made : List ℕ} {e : Edit} → Asks words q → HasText a.holds q text → Changes q text made e → WhereTold a.holds b.holds (PutsAt (out_name q) made)
+  usages : {rule : ℕ} → IsLowest words rule → b.holds ≡ a.holds → EndsAt a b (usage rule) s.Usage status → Course words a b status
+  absent : {q : Request} (k : ℕ) (name : List ℕ) → AsksFew words q → slice_get (inputs q) k ≡ Some name → StopsAt a.holds 0 (inputs q) k Missing → Rose a.misses b.misses
+      → b.holds ≡ a.holds → EndsAt a b (missing name) s.Missing status → Course words a b status
+  unread : {q : Request} (k : ℕ) (name : List ℕ) → AsksFew words q → slice_get (inputs q) k ≡ Some name → StopsAt a.holds 0 (inputs q) k Failed → Rose a.read_faults b.read_faults
+      → b.holds ≡ a.holds → EndsAt a b (read_fault name) s.ReadFault status → Course words a b status
+  refuses : {line : List ℕ} → Refusal words a.holds line → b.holds ≡ a.holds → EndsAt a b line s.Refused status → Course words a b status
+  writes : {q : Request} {made : List ℕ} {e : Edit} → IsAsked words a q made e → WhereTold a.holds b.holds (PutsAt (out_name q) made)
       → EndsAt a b (edit_report q.file e) s.Done status → Course words a b status
-  fails : {q : Request} {text made : List ℕ} {e : Edit} → Asks words q → HasText a.holds q text → Changes q text made e → WhereTold a.holds b.holds (SameBut (out_name q)) → Rose a.write_faults b.write_faults
+  fails : {q : Request} {made : List ℕ} {e : Edit} → IsAsked words a q made e → WhereTold a.holds b.holds (SameBut (out_name q)) → Rose a.write_faults b.write_faults
       → EndsAt a b (write_fault (out_name q)) s.WriteFault status → Course words a b status
   no_memory : b.holds ≡ a.holds → b.put ≡ a.put → status ≡ s.NoMemory → Course words a b status
 

@@ -1,7 +1,7 @@
 -- A verdict, as the code has it.
 use Rattle.std.specs.Prelude.{◌≡◌, ℕ, List}
 use Rattle.std.specs.String.{string_bytes}
-use Rattle.small_lexer.specs.Pieces.{IsIdentifier}
+use Rattle.command_words.specs.Names.{IsIdentifier}
 use Rattle.edit_writer.specs.declared.edits.Edit.{Edit}
 use Rattle.class_world.specs.declared.world.World.{World}
 use Rattle.class_world.specs.Subtypes.{IsClassTree}

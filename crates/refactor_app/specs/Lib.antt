@@ -1,9 +1,10 @@
 pub mod Words
 pub mod Asked
-pub mod Numbers
 pub mod Program
 pub mod Verdicts
 pub mod Decided
 pub mod Small
+pub mod Refusals
+pub mod Stops
 pub mod Answers
 pub mod Course

@@ -1,19 +1,22 @@
 -- Small programs, as the code has them.
-use Rattle.std.specs.Prelude.{ℕ, List, []}
+use Rattle.std.specs.Prelude.{ℕ, List, [], ◌∷◌}
+use Rattle.java_tree.specs.Names.{IsTable, built_in_names}
 use Rattle.java_tree.specs.View.{unit_plain}
 use Rattle.java_tree.specs.declared.tree.SourceUnit.{SourceUnit}
-use Rattle.small_lexer.specs.declared.token.Tok.{Tok}
-use Rattle.small_lexer.specs.Lexing.{LexesFirst}
+use Rattle.java_grammar.specs.declared.token.Tok.{Tok}
+use Rattle.source_files.specs.Trees.{AreTrees}
 use Rattle.decl_table.specs.Built.{IsBuilt}
 use Rattle.refactor_app.specs.declared.program.Small.{Small}
 use Rattle.refactor_app.specs.Program.{Program, IsRead, IsSmall, IsTypeNamed}
 
-abbrev pub HasTokens : List ℕ → List (List ℕ) → List Tok → Type 0
-HasTokens text names ts = LexesFirst names text ts
-
 abbrev pub program_of : List (List ℕ) → List Tok → SourceUnit → Program
 program_of names ts u = record { names = names; toks = ts; unit = unit_plain u }
 
+-- the text, alone, has this tree, and its names this table
+abbrev pub HasUnit : List ℕ → List (List ℕ) → SourceUnit → Type 0
+HasUnit text names u = AreTrees built_in_names 0 0 (text ∷ []) (unit_plain u ∷ []) names
+
+-- and it is a small one
 abbrev pub HasTree : List ℕ → List (List ℕ) → SourceUnit → Type 0
 HasTree text names u = (ts : List Tok) × IsRead text (program_of names ts u)
 

@@ -1,42 +1,50 @@
--- The words that ask for a change.
-use Rattle.std.specs.Prelude.{◌≡◌, ℕ, ◌<◌, ◌^◌, Bool, ◌||◌, ◌==◌, List, [], ◌∷◌, ◌++◌, codes}
-use Rattle.std.specs.Fmt.{decimal}
-use Rattle.small_lexer.specs.Pieces.{AllAre, is_part, IsIdentifier}
+-- What the words of a call ask for.
+use Rattle.std.specs.Prelude.{◌≡◌, ◌≢◌, ℕ, ◌<◌, List, [], ◌∷◌, ◌++◌}
+use Rattle.command_words.specs.declared.table.Command.{Command}
+use Rattle.command_words.specs.declared.table.Command.TheVariants as c
+use Rattle.command_words.specs.Names.{IsNumber, within}
+use Rattle.command_words.specs.Table.{word_of, parts_of}
+use Rattle.command_words.specs.Rules.{Meets}
 
--- generalize OUT FILE LINE COL TYPE -- FILE
+-- generalize OUT FILE LINE COL TYPE -- user files + library files
 pub record Request : Type 0 where
   pub out : List ℕ
   pub file : List ℕ
   pub line : ℕ
   pub col : ℕ
   pub ty : List ℕ
+  pub users : List (List ℕ)
+  pub libs : List (List ℕ)
 
-abbrev pub is_part_byte : ℕ → Bool
-is_part_byte b = is_part b || (b == 45) || (b == 46)
+-- all files, in the order of the words
+abbrev pub inputs : Request → List (List ℕ)
+inputs q = q.users ++ q.libs
 
--- one part of a name: a run of ASCII letters, digits, `_`, `$`, `-` and `.`, other than `.` and `..`
-abbrev pub IsPart : List ℕ → Type 0
-IsPart w = AllAre is_part_byte w × (w ≡ [] → ⊥) × (w ≡ codes "." → ⊥) × (w ≡ codes ".." → ⊥)
+-- FILE is the only file
+abbrev pub IsAlone : Request → Type 0
+IsAlone q = inputs q ≡ q.file ∷ []
 
--- a decimal number of at most ten digits, without a leading zero and not 0
-abbrev pub IsNumber : List ℕ → ℕ → Type 0
-IsNumber w n = (w ≡ decimal n) × (0 < n) × (n < 10 ^ 10)
-
--- The parts of a request are what they have to be.
-pub record AreFit (q : Request) (line col : List ℕ) : Type 0 where
-  pub out : IsPart q.out
-  pub file : IsPart q.file
-  pub at_line : IsNumber line q.line
-  pub at_col : IsNumber col q.col
-  pub ty : IsIdentifier q.ty
-
--- the words ask for it
+-- the words break no rule, and ask for it
 pub record Asks (words : List (List ℕ)) (q : Request) : Type 0 where
+  pub rest : List (List ℕ)
+  pub are : words ≡ word_of c.Generalize ∷ rest
   pub line : List ℕ
   pub col : List ℕ
-  pub are : words ≡ codes "generalize" ∷ q.out ∷ q.file ∷ line ∷ col ∷ q.ty ∷ codes "--" ∷ q.file ∷ []
-  pub fit : AreFit q line col
+  pub own : (parts_of rest).own ≡ q.out ∷ q.file ∷ line ∷ col ∷ q.ty ∷ []
+  pub at_line : IsNumber line q.line
+  pub at_col : IsNumber col q.col
+  pub users : (parts_of rest).users ≡ q.users
+  pub libs : (parts_of rest).libs ≡ q.libs
+  pub meets : (n : ℕ) → Meets c.Generalize (parts_of rest) n
+
+-- the words break no rule, and ask for something else
+pub record AskOther (words : List (List ℕ)) : Type 0 where
+  pub command : Command
+  pub rest : List (List ℕ)
+  pub are : words ≡ word_of command ∷ rest
+  pub other : command ≢ c.Generalize
+  pub meets : (n : ℕ) → Meets command (parts_of rest) n
 
 -- the name of the new file
 abbrev pub out_name : Request → List ℕ
-out_name q = q.out ++ (47 ∷ q.file)
+out_name q = within q.out q.file

@@ -1,26 +1,38 @@
 //! The top call.
 
-ghost use Rattle.std.specs.Prelude.{◌≡◌, ◌≤◌, ◌⊎◌, ℕ, List, [], length, map, Ok, Err, IfOk, OnErr, codes};
+ghost use Rattle.std.specs.Prelude.{◌≡◌, ◌≢◌, ◌≤◌, ◌⊎◌, ℕ, List, [], ◌∷◌, length, map, Ok, Err, IfOk, OnErr, codes};
 ghost use Rattle.std.specs.String.{string_bytes};
-ghost use Rattle.small_lexer.specs.Pieces.{IsIdentifier};
+ghost use Rattle.command_words.specs.Names.{IsIdentifier};
+ghost use Rattle.command_words.specs.Asked as command;
 ghost use Rattle.tool_files.specs.Told.{Rose, Appends, AppendsSome, WhereTold, SameBut, PutsAt};
 ghost use Rattle.report_text.specs.Report as lines;
-ghost use Rattle.refactor_app.specs.Words.{Request, Asks};
+ghost use Rattle.source_files.specs.Held.{AreHeld};
+ghost use Rattle.source_files.specs.Answers.{HasParsed};
+ghost use Rattle.refactor_app.specs.Words.{Request, inputs, Asks};
 ghost use Rattle.refactor_app.specs.Asked.{request_of};
-ghost use Rattle.refactor_app.specs.Answers.{IsDone, IsRefused, IsMissing, IsReadFault, IsWriteFault, IsOutFault, Ends};
+ghost use Rattle.refactor_app.specs.Answers as answers;
+ghost use Rattle.refactor_app.specs.Answers.{IsDone, IsRefused, IsUsage, IsWriteFault, IsOutFault, Ends};
 ghost use Rattle.refactor_app.specs.Decided.{Decides};
+ghost use Rattle.refactor_app.specs.Small.{HasUnit};
+ghost use Rattle.refactor_app.specs.Refusals as refusals;
+ghost use Rattle.refactor_app.specs.Refusals.{AsksFew};
 ghost use Rattle.refactor_app.specs.Course.{Moment, Course, Finishes, Sequel};
+ghost use Rattle.refactor_app.specs.Stops.{IsNamed, Stops};
 
+use crate::asked::{Asked, change_asked, inputs_of};
 use crate::decide::{Changed, Verdict, decide};
+use crate::lines::stop_line;
 use crate::status::Status;
-use crate::words::{Asked, read_words};
-use java_tree::NoMemory;
-use report_text::{missing, read_fault};
+use command_words::{Reading, read_words};
+use java_tree::tree::SourceUnit;
+use java_tree::{Items, Names, NoMemory};
+use report_text::{missing, read_fault, usage};
+use source_files::{Parsed, ReadStop, TreeStop, parse_files, read_files};
 use std::alloc::Global;
-use tool_files::{FileFault, Files, Sink};
+use tool_files::{Files, Sink};
 
-/// The most bytes of a small program.
-const MOST_BYTES: usize = 1_048_576;
+/// The most files of a program.
+const MOST_FILES: usize = 256;
 
 // Puts a report, after which the call ends so.
 fn put<K: Sink>(out: &mut K, report: &[u8], status: Status) -> Status
@@ -53,46 +65,136 @@ fn finish<F: Files, K: Sink>(files: &mut F, out: &mut K, change: &Changed) -> St
     }
 }
 
-// What becomes of a request on a text.
+// What becomes of a request on a text with this tree.
 fn answer<F: Files, K: Sink>(
     alloc: Global,
     q: &Asked<'_>,
     text: &[u8],
+    names: Names,
+    unit: SourceUnit,
     files: &mut F,
     out: &mut K,
 ) -> Status
     requires size { length text.now ≤ 1048576 }
     requires word { IsIdentifier q.now.ty.now }
+    requires unit { HasUnit text.now names unit }
     ensures { let a : Moment = record { holds = F.holds files.old; misses = F.misses files.old; read_faults = F.read_faults files.old; write_faults = F.write_faults files.old; put = K.written out.old; faults = K.faults out.old } in
         let b : Moment = record { holds = F.holds files.new; misses = F.misses files.new; read_faults = F.read_faults files.new; write_faults = F.write_faults files.new; put = K.written out.new; faults = K.faults out.new } in
         Sequel (request_of q.now) text.now a b result }
 {
-    match decide(alloc, q, text) {
+    match decide(alloc, q, text, names, unit) {
         Ok(Verdict::Refused(line)) => put(out, line.as_bytes(), Status::Refused),
         Ok(Verdict::Changed(change)) => finish(files, out, &change),
         Err(_) => Status::NoMemory,
     }
 }
 
-// Reads the file of a request and answers it.
+// What becomes of a request on files with these texts and trees. A small program is one file.
+fn on_trees<F: Files, K: Sink>(
+    alloc: Global,
+    q: &Asked<'_>,
+    texts: &[Items<u8>],
+    parsed: Parsed,
+    files: &mut F,
+    out: &mut K,
+) -> Status
+    requires word { IsIdentifier q.now.ty.now }
+    requires held { AreHeld (F.holds files.old) 0 (inputs (request_of q.now)) texts.now }
+    requires trees { HasParsed texts.now (Ok parsed) }
+    ensures { let a : Moment = record { holds = F.holds files.old; misses = F.misses files.old; read_faults = F.read_faults files.old; write_faults = F.write_faults files.old; put = K.written out.old; faults = K.faults out.old } in
+        let b : Moment = record { holds = F.holds files.new; misses = F.misses files.new; read_faults = F.read_faults files.new; write_faults = F.write_faults files.new; put = K.written out.new; faults = K.faults out.new } in
+        (words : List (List ℕ)) → AsksFew words (request_of q.now) → Course words a b result }
+{
+    if texts.len() != 1 {
+        return put(out, b"refused N2 -\n", Status::Refused);
+    }
+    let Parsed { names, units } = parsed;
+    match units.into_vec().pop() {
+        Some(unit) => answer(alloc, q, texts[0].as_slice(), names, unit, files, out),
+        None => Status::NoMemory,
+    }
+}
+
+// What becomes of a request on files with these texts.
+fn on_texts<F: Files, K: Sink>(
+    alloc: Global,
+    q: &Asked<'_>,
+    names: &[String],
+    texts: &[Items<u8>],
+    files: &mut F,
+    out: &mut K,
+) -> Status
+    requires word { IsIdentifier q.now.ty.now }
+    requires names { map string_bytes names.now ≡ inputs (request_of q.now) }
+    requires few { length names.now ≤ 256 }
+    requires held { AreHeld (F.holds files.old) 0 (inputs (request_of q.now)) texts.now }
+    ensures { let a : Moment = record { holds = F.holds files.old; misses = F.misses files.old; read_faults = F.read_faults files.old; write_faults = F.write_faults files.old; put = K.written out.old; faults = K.faults out.old } in
+        let b : Moment = record { holds = F.holds files.new; misses = F.misses files.new; read_faults = F.read_faults files.new; write_faults = F.write_faults files.new; put = K.written out.new; faults = K.faults out.new } in
+        (words : List (List ℕ)) → AsksFew words (request_of q.now) → Course words a b result }
+{
+    match parse_files(alloc, texts) {
+        Ok(parsed) => on_trees(alloc, q, texts, parsed, files, out),
+        Err(stop) => put_made(out, stop_line(alloc, names, texts, stop), Status::Refused),
+    }
+}
+
+// What stops the reading of the files.
+fn stop<K: Sink>(alloc: Global, names: &[String], stop: ReadStop, out: &mut K) -> Status
+    requires { IsNamed (length names.now) stop }
+    ensures { Stops (map string_bytes names.now) stop (K.written out.old) (K.written out.new) (K.faults out.old) (K.faults out.new) result }
+{
+    match stop {
+        ReadStop::Missing(file) => {
+            let line = missing(alloc, names[file].as_str());
+            put_made(out, line, Status::Missing)
+        }
+        ReadStop::Failed(file) => {
+            let line = read_fault(alloc, names[file].as_str());
+            put_made(out, line, Status::ReadFault)
+        }
+        ReadStop::TooLarge => put(out, b"refused L2 -\n", Status::Refused),
+        ReadStop::TooMuch => put(out, b"refused L3 -\n", Status::Refused),
+        ReadStop::NoMemory => Status::NoMemory,
+    }
+}
+
+// Reads the files of a request and answers it.
+fn on_files<F: Files, K: Sink>(
+    alloc: Global,
+    q: &Asked<'_>,
+    names: &[String],
+    files: &mut F,
+    out: &mut K,
+) -> Status
+    requires word { IsIdentifier q.now.ty.now }
+    requires names { map string_bytes names.now ≡ inputs (request_of q.now) }
+    requires few { length names.now ≤ 256 }
+    ensures { let a : Moment = record { holds = F.holds files.old; misses = F.misses files.old; read_faults = F.read_faults files.old; write_faults = F.write_faults files.old; put = K.written out.old; faults = K.faults out.old } in
+        let b : Moment = record { holds = F.holds files.new; misses = F.misses files.new; read_faults = F.read_faults files.new; write_faults = F.write_faults files.new; put = K.written out.new; faults = K.faults out.new } in
+        (words : List (List ℕ)) → AsksFew words (request_of q.now) → Course words a b result }
+{
+    match read_files(alloc, names, files) {
+        Ok(texts) => on_texts(alloc, q, names, texts.as_slice(), files, out),
+        Err(why) => stop(alloc, names, why, out),
+    }
+}
+
+// A request for a change.
 fn change<F: Files, K: Sink>(alloc: Global, q: &Asked<'_>, files: &mut F, out: &mut K) -> Status
     requires { IsIdentifier q.now.ty.now }
     ensures { let a : Moment = record { holds = F.holds files.old; misses = F.misses files.old; read_faults = F.read_faults files.old; write_faults = F.write_faults files.old; put = K.written out.old; faults = K.faults out.old } in
         let b : Moment = record { holds = F.holds files.new; misses = F.misses files.new; read_faults = F.read_faults files.new; write_faults = F.write_faults files.new; put = K.written out.new; faults = K.faults out.new } in
         (words : List (List ℕ)) → Asks words (request_of q.now) → Course words a b result }
 {
-    let mut text = Vec::new(alloc);
-    match files.read(q.file, MOST_BYTES + 1, &mut text) {
-        Ok(()) => {
-            if text.len() > MOST_BYTES {
-                put(out, b"refused N2 -\n", Status::Refused)
+    match inputs_of(alloc, q) {
+        Ok(names) => {
+            if names.len() > MOST_FILES {
+                put(out, b"refused L1 -\n", Status::Refused)
             } else {
-                answer(alloc, q, text.as_slice(), files, out)
+                on_files(alloc, q, names.as_slice(), files, out)
             }
         }
-        Err(FileFault::Missing) => put_made(out, missing(alloc, q.file), Status::Missing),
-        Err(FileFault::Failed) => put_made(out, read_fault(alloc, q.file), Status::ReadFault),
-        Err(FileFault::NoMemory) => Status::NoMemory,
+        Err(_) => Status::NoMemory,
     }
 }
 
@@ -102,13 +204,18 @@ fn run<F: Files, K: Sink>(alloc: Global, words: &[String], files: &mut F, out: &
         let b : Moment = record { holds = F.holds files.new; misses = F.misses files.new; read_faults = F.read_faults files.new; write_faults = F.write_faults files.new; put = K.written out.new; faults = K.faults out.new } in
         Course (map string_bytes words.now) a b result }
 {
-    match read_words(words) {
-        Some(q) => change(alloc, &q, files, out),
-        None => put(out, b"refused N1 -\n", Status::Refused),
+    match read_words(alloc, words) {
+        Ok(Reading::Usage(rule)) => put_made(out, usage(alloc, rule), Status::Usage),
+        Ok(Reading::Asked(request)) => match change_asked(&request) {
+            Some(q) => change(alloc, &q, files, out),
+            None => put(out, b"refused N1 -\n", Status::Refused),
+        },
+        Err(_) => Status::NoMemory,
     }
 }
 
-/// Changes a program as the words ask (`generalize OUT FILE LINE COL TYPE -- FILE`), and puts a report. LINE and COL count from 1, columns in bytes.
+/// Changes a program as the words ask (`generalize OUT FILE LINE COL TYPE -- FILES + LIBRARY FILES`), and puts a report. LINE and COL count
+/// from 1, columns in bytes. Words are read for every command; those that are not built yet are refused as N1.
 ///
 /// Where `files` and `out` tell what they hold, each answer says of it what its clause says. `NoMemory` is free, before the first write or put.
 pub fn refactor<F: Files, K: Sink>(
@@ -120,11 +227,13 @@ pub fn refactor<F: Files, K: Sink>(
     // The new file holds the old bytes under the reported edit, every other name is as before, and the old and the new program
     // have their trees and types; the new tree is the old one with the one type changed.
     ensures done { result ≡ Status.Done → IsDone (map string_bytes words.now) (F.holds files.old) (F.holds files.new) (K.written out.old) (K.written out.new) }
-    // The words are no request, or this is the first rule or constraint that stands against it; nothing is written.
+    // This is the first rule or constraint that stands against the words and the files; nothing is written.
     ensures refused { result ≡ Status.Refused → IsRefused (map string_bytes words.now) (F.holds files.old) (F.holds files.new) (K.written out.old) (K.written out.new) }
-    ensures missing { result ≡ Status.Missing → IsMissing (map string_bytes words.now) (F.holds files.old) (F.holds files.new) (K.written out.old) (K.written out.new) }
+    // This is the lowest rule that the words break.
+    ensures usage { result ≡ Status.Usage → IsUsage (map string_bytes words.now) (F.holds files.old) (F.holds files.new) (K.written out.old) (K.written out.new) }
+    ensures missing { result ≡ Status.Missing → answers.IsMissing (map string_bytes words.now) (F.holds files.old) (F.holds files.new) (K.written out.old) (K.written out.new) }
     ensures missed { result ≡ Status.Missing → Rose (F.misses files.old) (F.misses files.new) }
-    ensures read_fault { result ≡ Status.ReadFault → IsReadFault (map string_bytes words.now) (F.holds files.old) (F.holds files.new) (K.written out.old) (K.written out.new) }
+    ensures read_fault { result ≡ Status.ReadFault → answers.IsReadFault (map string_bytes words.now) (F.holds files.old) (F.holds files.new) (K.written out.old) (K.written out.new) }
     ensures unread { result ≡ Status.ReadFault → Rose (F.read_faults files.old) (F.read_faults files.new) }
     ensures write_fault { result ≡ Status.WriteFault → IsWriteFault (map string_bytes words.now) (F.holds files.old) (F.holds files.new) (K.written out.old) (K.written out.new) }
     ensures unwritten { result ≡ Status.WriteFault → Rose (F.write_faults files.old) (F.write_faults files.new) }
@@ -132,7 +241,7 @@ pub fn refactor<F: Files, K: Sink>(
     ensures cut { result ≡ Status.OutFault → Rose (K.faults out.old) (K.faults out.new) }
     // Nothing was written and nothing put.
     ensures no_memory { result ≡ Status.NoMemory → (F.holds files.new ≡ F.holds files.old) × (K.written out.new ≡ K.written out.old) }
-    ensures no_other { (result ≡ Status.Usage → ⊥) × (result ≡ Status.Threw → ⊥) × (result ≡ Status.Bound → ⊥) }
+    ensures no_other { (result ≡ Status.Threw → ⊥) × (result ≡ Status.Bound → ⊥) }
 {
     run(alloc, words, files, out)
 }

@@ -5,22 +5,23 @@ ghost use Rattle.std.specs.String.{string_bytes};
 ghost use Rattle.java_tree.specs.declared.tree.Node.{Node};
 ghost use Rattle.java_tree.specs.Names.{AreDistinct};
 ghost use Rattle.java_tree.specs.View.{unit_plain};
-ghost use Rattle.small_lexer.specs.Pieces.{IsIdentifier};
+ghost use Rattle.command_words.specs.Names.{IsIdentifier};
 ghost use Rattle.edit_writer.specs.Places as places;
 ghost use Rattle.decl_table.specs.Classes.{Numbers};
 ghost use Rattle.generalize_type.specs.Steps.{IsConstrained};
 ghost use Rattle.report_text.specs.Report as lines;
 ghost use Rattle.refactor_app.specs.Asked.{request_of};
 ghost use Rattle.refactor_app.specs.Decided.{Decides, IsChange, IsLine, IsPlanned};
-ghost use Rattle.refactor_app.specs.Small.{IsProgramOf, IsTarget};
+ghost use Rattle.refactor_app.specs.Small.{IsProgramOf, IsTarget, HasUnit};
 ghost use Rattle.refactor_app.specs.Verdicts.{asked};
 ghost use Rattle.refactor_app.specs.Words as spec;
 
-use crate::program::{Small, read_program};
-use crate::words::Asked;
+use crate::asked::Asked;
+use crate::program::{Small, program};
 use edit_writer::{Edit, Place, apply, place_at};
 use generalize_type::{SmallAgainst, SmallEdit, generalize_small, start_of};
-use java_tree::NoMemory;
+use java_tree::tree::SourceUnit;
+use java_tree::{Names, NoMemory};
 use report_text::{edit_report, refused_at, write_fault};
 use std::alloc::Global;
 
@@ -173,13 +174,20 @@ fn judge(
     }
 }
 
-/// What becomes of the request on this text.
-pub fn decide(alloc: Global, q: &Asked<'_>, text: &[u8]) -> Result<Verdict, NoMemory>
+/// What becomes of the request on this text with this tree.
+pub fn decide(
+    alloc: Global,
+    q: &Asked<'_>,
+    text: &[u8],
+    names: Names,
+    unit: SourceUnit,
+) -> Result<Verdict, NoMemory>
     requires size { length text.now ≤ 1048576 }
     requires word { IsIdentifier q.now.ty.now }
+    requires unit { HasUnit text.now names unit }
     ensures { IfOk result (Decides (request_of q.now) text.now) }
 {
-    let Some(small) = read_program(alloc, text)? else {
+    let Some(small) = program(alloc, text, names, unit)? else {
         return refused(alloc, "refused N2 -\n");
     };
     match target_of(&small, q.ty) {

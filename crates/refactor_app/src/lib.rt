@@ -1,12 +1,13 @@
 //! The top call: words, files and a report.
 #![tactic(auto)]
 
+mod asked;
 mod call;
 mod decide;
 pub mod laws;
+mod lines;
 mod program;
 mod status;
-mod words;
 
 pub use call::refactor;
 pub use status::Status;

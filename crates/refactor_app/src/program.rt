@@ -1,14 +1,15 @@
-//! Small programs, from texts.
+//! Small programs, from texts and their trees.
 
-ghost use Rattle.std.specs.Prelude.{◌≤◌, length, IfOk, IfSome, IfNone};
-ghost use Rattle.refactor_app.specs.Small.{IsProgramOf, IsNoProgram, HasTokens, HasTree};
+ghost use Rattle.std.specs.Prelude.{◌≡◌, ◌≤◌, true, false, length, IfOk, IfSome, IfNone};
+ghost use Rattle.java_tree.specs.View.{unit_plain};
+ghost use Rattle.refactor_app.specs.Small.{IsProgramOf, IsNoProgram, HasUnit, HasTree};
 
 use check_decl::check_small;
 use decl_table::{BuildFault, Declared, build_small};
+use java_lexer::{LexFault, lex};
 use java_tree::tree::SourceUnit;
-use java_tree::{Items, Names, NoMemory};
-use small_lexer::{LexFault, Tok, lex};
-use small_parser::{SyntaxFault, parse_small};
+use java_tree::{Names, NoMemory};
+use small_programs::is_small;
 use std::alloc::Global;
 
 /// A small program: its names, its tree and its declared types.
@@ -19,33 +20,22 @@ pub struct Small {
     pub declared: Declared,
 }
 
-// The tokens of a text, and their names.
-fn read_tokens(alloc: Global, text: &[u8]) -> Result<Option<(Names, Items<Tok>)>, NoMemory>
-    requires { length text.now ≤ 1048576 }
-    ensures some { IfOk result (λ o. IfSome o (λ r. HasTokens text.now r.0 r.1)) }
-    ensures none { IfOk result (λ o. IfNone o (IsNoProgram text.now)) }
+// Whether the tree of a text is a small one, and no comment stands in the text.
+fn has_small_tree(
+    alloc: Global,
+    text: &[u8],
+    names: &Names,
+    unit: &SourceUnit,
+) -> Result<bool, NoMemory>
+    requires size { length text.now ≤ 1048576 }
+    requires unit { HasUnit text.now names.now unit.now }
+    ensures yes { IfOk result (λ b. b ≡ true → HasTree text.now names.now unit.now) }
+    ensures no { IfOk result (λ b. b ≡ false → IsNoProgram text.now) }
 {
-    let mut names = Names::new(alloc)?;
-    match lex(alloc, text, &mut names) {
-        Ok(toks) => Ok(Some((names, toks))),
-        Err(LexFault::Bad) => Ok(None),
+    match lex(alloc, text) {
+        Ok(tokens) => Ok(is_small(text, tokens.as_slice(), unit, names)),
+        Err(LexFault::Bad { .. }) => Ok(false),
         Err(LexFault::NoMemory) => Err(NoMemory),
-    }
-}
-
-// The tree of a text, and its names.
-fn read_tree(alloc: Global, text: &[u8]) -> Result<Option<(Names, SourceUnit)>, NoMemory>
-    requires { length text.now ≤ 1048576 }
-    ensures some { IfOk result (λ o. IfSome o (λ r. HasTree text.now r.0 r.1)) }
-    ensures none { IfOk result (λ o. IfNone o (IsNoProgram text.now)) }
-{
-    match read_tokens(alloc, text)? {
-        Some((names, toks)) => match parse_small(alloc, toks.as_slice(), &names) {
-            Ok(unit) => Ok(Some((names, unit))),
-            Err(SyntaxFault::Bad) => Ok(None),
-            Err(SyntaxFault::NoMemory) => Err(NoMemory),
-        },
-        None => Ok(None),
     }
 }
 
@@ -78,14 +68,21 @@ fn checked(
     }
 }
 
-/// The small program of a text, where it is one.
-pub fn read_program(alloc: Global, text: &[u8]) -> Result<Option<Small>, NoMemory>
-    requires { length text.now ≤ 1048576 }
+/// The small program of a text with this tree, where it is one.
+pub fn program(
+    alloc: Global,
+    text: &[u8],
+    names: Names,
+    unit: SourceUnit,
+) -> Result<Option<Small>, NoMemory>
+    requires size { length text.now ≤ 1048576 }
+    requires unit { HasUnit text.now names unit }
     ensures some { IfOk result (λ o. IfSome o (IsProgramOf text.now)) }
     ensures none { IfOk result (λ o. IfNone o (IsNoProgram text.now)) }
 {
-    match read_tree(alloc, text)? {
-        Some((names, unit)) => checked(alloc, text, names, unit),
-        None => Ok(None),
+    if has_small_tree(alloc, text, &names, &unit)? {
+        checked(alloc, text, names, unit)
+    } else {
+        Ok(None)
     }
 }

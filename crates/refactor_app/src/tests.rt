@@ -123,7 +123,7 @@ class Main { public static void main(String[] args) { B x = new B(); x.m(); } }
 #[test]
 fn each_refusal_has_its_line(rt: HostRuntime) -> Result<(), Fail> {
     let alloc = rt.alloc();
-    assert!(rt; refuses(alloc, FIRST, "extract A.java", b"refused N1 -\n")?);
+    assert!(rt; refuses(alloc, FIRST, "check -- A.java", b"refused N1 -\n")?);
     assert!(rt; refuses(alloc, b"class A { int n; }\n", REQUEST, b"refused N2 -\n")?);
     let unknown = "generalize out A.java 5 5 C -- A.java";
     assert!(rt; refuses(alloc, FIRST, unknown, b"refused N2 -\n")?);
@@ -161,6 +161,76 @@ fn values_are_constrained(rt: HostRuntime) -> Result<(), Fail> {
     assert!(rt; refuses(alloc, FLOWS, object, b"refused ASSIGN A.java:5:11\n")?);
     let second = "generalize out A.java 5 5 A -- A.java";
     assert!(rt; refuses(alloc, FLOWS, second, b"refused ASSIGN A.java:7:9\n")?);
+    Ok(())
+}
+
+/// Whether these words break a rule, so that nothing is read and this is put.
+fn misuses(alloc: Global, line: &str, report: &[u8]) -> Result<bool, NoMemory> {
+    let mut files = files(alloc, FIRST, &[1])?;
+    let mut out = sink(alloc, &[])?;
+    let words = words(alloc, line)?;
+    let status = refactor(alloc, words.as_slice(), &mut files, &mut out);
+    Ok(status == Status::Usage && out.written() == report)
+}
+
+#[test]
+fn the_lowest_rule_on_words_is_named(rt: HostRuntime) -> Result<(), Fail> {
+    let alloc = rt.alloc();
+    assert!(rt; misuses(alloc, "extract A.java", b"usage U1\n")?);
+    assert!(rt; misuses(alloc, "generalize out A.java 05 5 1 --", b"usage U3\n")?);
+    assert!(rt; misuses(alloc, "generalize . A.java 5 5 1 -- A.java", b"usage U5\n")?);
+    assert!(rt; misuses(alloc, "generalize out A.java 5 5 A -- B.java + A.java", b"usage U8\n")?);
+    let nothing = Vec::new(alloc);
+    let mut files = files(alloc, FIRST, &[1])?;
+    let mut out = sink(alloc, &[])?;
+    assert_eq!(rt;
+        refactor(alloc, nothing.as_slice(), &mut files, &mut out),
+        Status::Usage
+    );
+    assert_eq!(rt; out.written(), b"usage U1\n".as_slice());
+    Ok(())
+}
+
+#[test]
+fn texts_are_read_by_the_whole_grammar(rt: HostRuntime) -> Result<(), Fail> {
+    let alloc = rt.alloc();
+    let float = b"class A { float f; }\n";
+    assert!(rt; refuses(alloc, float, REQUEST, b"refused S7 A.java:1:11\n")?);
+    assert!(rt; refuses(alloc, b"class A {", REQUEST, b"refused G1 A.java:1:10\n")?);
+    let string = b"class A { String s = \"x; }\n";
+    assert!(rt; refuses(alloc, string, REQUEST, b"refused X4 A.java:1:22\n")?);
+    assert!(rt; refuses(alloc, b"", REQUEST, b"refused N2 -\n")?);
+    let library = b"package p; public interface I<T> extends J { int n = 0; T m(T t) throws E; }\n";
+    assert!(rt; refuses(alloc, library, REQUEST, b"refused N2 -\n")?);
+    let stray = b"class A { } ; class Main { public static void main(String[] a) { } }\n";
+    assert!(rt; refuses(alloc, stray, REQUEST, b"refused N2 -\n")?);
+    let comment = b"class A { } class Main { public static void main(String[] a) { } } // -\n";
+    assert!(rt; refuses(alloc, comment, REQUEST, b"refused N2 -\n")?);
+    Ok(())
+}
+
+#[test]
+fn two_files_are_no_small_program(rt: HostRuntime) -> Result<(), Fail> {
+    let alloc = rt.alloc();
+    let mut list = Vec::new(alloc);
+    list.push((String::from_str(alloc, "a/A.java")?, Vec::from_slice(alloc, FIRST)?))?;
+    list.push((String::from_str(alloc, "B.java")?, Vec::from_slice(alloc, b"class C { }")?))?;
+    let mut files = MemFiles::new(alloc, list, Vec::new(alloc))?;
+    files.reserve(2, 4096)?;
+    let mut out = sink(alloc, &[])?;
+    let both = words(alloc, "generalize out a/A.java 5 5 A -- B.java a/A.java")?;
+    assert_eq!(rt;
+        refactor(alloc, both.as_slice(), &mut files, &mut out),
+        Status::Refused
+    );
+    assert_eq!(rt; out.written(), b"refused N2 -\n".as_slice());
+    let mut out = sink(alloc, &[])?;
+    let one = words(alloc, "generalize out/b a/A.java 5 5 A -- a/A.java")?;
+    assert_eq!(rt;
+        refactor(alloc, one.as_slice(), &mut files, &mut out),
+        Status::Done
+    );
+    assert_eq!(rt; files.bytes("out/b/a/A.java"), Some(GENERALIZED));
     Ok(())
 }
 

@@ -34,6 +34,10 @@ refused rule = line_of (codes "refused" ∷ rule ∷ codes "-" ∷ [])
 abbrev pub refused_at : List ℕ → List ℕ → Place → List ℕ
 refused_at rule file at = line_of (codes "refused" ∷ rule ∷ place_text file at ∷ [])
 
+-- the lowest rule that the words break
+abbrev pub usage : ℕ → List ℕ
+usage rule = line_of (codes "usage" ∷ (codes "U" ++ decimal rule) ∷ [])
+
 abbrev pub missing : List ℕ → List ℕ
 missing name = line_of (codes "missing" ∷ name ∷ [])
 

@@ -62,3 +62,17 @@ pub fn write_fault(alloc: Global, name: &str) -> Result<String, NoMemory>
 {
     Ok(format!(in alloc; "write fault {name}\n")?)
 }
+
+/// `usage URULE`
+pub fn usage(alloc: Global, rule: u8) -> Result<String, NoMemory>
+    ensures { IfOk result (λ r. string_bytes r ≡ spec.usage rule) }
+{
+    Ok(format!(in alloc; "usage U{rule}\n")?)
+}
+
+/// A rule, by the letters of its family and its number.
+pub fn rule_name(alloc: Global, family: &str, number: u8) -> Result<String, NoMemory>
+    ensures { IfOk result (λ r. string_bytes r ≡ family.now ++ decimal number) }
+{
+    Ok(format!(in alloc; "{family}{number}")?)
+}

@@ -4,8 +4,8 @@ use Rattle.std.specs.Option.{option_map}
 use Rattle.java_tree.specs.declared.tree.Node.{Node}
 use Rattle.java_tree.specs.Plain as t
 use Rattle.java_tree.specs.Plain.{TypeExpr, TypeExprs, Expr, Exprs, Var, Param, Stmt, Stmts, Groups, Catches, Member, TypeDecl}
-use Rattle.small_lexer.specs.Replaced.{Change}
-use Rattle.small_parser.specs.Nodes.{type_nodes, types_nodes, expr_nodes, exprs_nodes, init_nodes, vars_nodes, labels_nodes, stmt_nodes, stmts_nodes, type_list_nodes, result_nodes, params_nodes, body_nodes, member_nodes, members_nodes, decl_nodes}
+use Rattle.small_programs.specs.Replaced.{Change}
+use Rattle.small_programs.specs.Nodes.{type_nodes, types_nodes, expr_nodes, exprs_nodes, init_nodes, vars_nodes, labels_nodes, stmt_nodes, stmts_nodes, type_list_nodes, result_nodes, params_nodes, body_nodes, member_nodes, members_nodes, decl_nodes}
 use Rattle.constraint_terms.specs.Effect.{type, types, expr, exprs, var, param, stmt, stmts, member, decl}
 
 module _ (c : Change) where

@@ -4,7 +4,7 @@ use Rattle.std.specs.Prelude.{option_and_then}
 use Rattle.std.specs.Option.{option_map}
 use Rattle.java_tree.specs.Plain as t
 use Rattle.java_tree.specs.Plain.{TypeExpr, Expr, Stmt, Stmts, MethodDecl, Member, TypeDecl, SourceUnit}
-use Rattle.small_lexer.specs.Replaced.{Change}
+use Rattle.small_programs.specs.Replaced.{Change}
 use Rattle.java_typing.specs.Main.{last_type, first_method, main_method, statements, body_of, main_steps, HasStmt}
 use Rattle.constraint_terms.specs.Effect.{type, expr, stmt, stmts, method, member, decl, generalized}
 use Rattle.tree_edit.specs.Roots.{type_root, expr_root, stmt_root, member_root}

@@ -2,13 +2,13 @@
 use Rattle.std.proofs.Common.{◌≡◌, ◌≢◌, ℕ, zero, suc, ◌+◌, ◌-◌, ◌<◌, ◌≤◌, ◌==◌, Bool, true, false, List, [], ◌∷◌, length, map, slice_get, Option, Some, None, refl, sym, ap, ◌∙◌, ◌⊎◌, inl, inr, arith, add-zero}
 use Rattle.std.proofs.lemmas.Option.{slice_get_past}
 use Rattle.std.proofs.lemmas.Bool.Decides.{nat_tests}
-use Rattle.small_lexer.specs.declared.token.Tok.{Tok}
-use Rattle.small_lexer.specs.declared.token.Sort.{Sort}
-use Rattle.small_lexer.specs.declared.token.Sort.TheVariants as s
-use Rattle.small_lexer.specs.Reads.{sort_in, text_in, sort_at, text_at, from_at, to_at, span_of}
-use Rattle.small_lexer.specs.Replaced.{Change, moved_tok}
-use Rattle.small_lexer.proofs.Places.{here, sort_at-moved, text_at-moved}
-use Rattle.small_parser.specs.Grammar.{Stand}
+use Rattle.java_grammar.specs.declared.token.Tok.{Tok}
+use Rattle.java_grammar.specs.declared.token.Sort.{Sort}
+use Rattle.java_grammar.specs.declared.token.Sort.TheVariants as s
+use Rattle.java_grammar.specs.Reads.{sort_in, name_in, sort_at, name_at, from_at, to_at, span_of}
+use Rattle.small_programs.specs.Replaced.{Change, moved_tok}
+use Rattle.small_programs.proofs.Places.{here, sort_at-moved, name_at-moved}
+use Rattle.small_programs.specs.Grammar.{Stand}
 use Rattle.tree_edit.specs.Order.{InOrder}
 
 -- a token other than the end is within the list
@@ -26,9 +26,9 @@ pub sort_of : (ts : List Tok) (i : ℕ) (t : Tok) → slice_get ts i ≡ Some t 
 unfolding sort_at
 sort_of ts i t e = ap sort_in e
 
-pub text_of : (ts : List Tok) (i : ℕ) (t : Tok) → slice_get ts i ≡ Some t → text_at ts i ≡ t.text
-unfolding text_at
-text_of ts i t e = ap text_in e
+pub name_of : (ts : List Tok) (i : ℕ) (t : Tok) → slice_get ts i ≡ Some t → name_at ts i ≡ t.name
+unfolding name_at
+name_of ts i t e = ap name_in e
 
 pub place_of : (ts : List Tok) (i : ℕ) (t : Tok) → slice_get ts i ≡ Some t → span_of ts i (i + 1) ≡ t.span
 unfolding span_of from_at to_at
@@ -64,17 +64,17 @@ one_place ts order i j in_i in_j same = by_place (grind arith)
 
 -- ---- tokens that stand
 
-pub stand_at : (names : List (List ℕ)) (ts : List Tok) (ks : List Sort) (i m : ℕ) (k : Sort) → Stand names ts ks i → slice_get ks m ≡ Some k → sort_at ts (i + m) ≡ k
-stand_at names ts [] i m k h e = absurd (cc)
-stand_at names ts (a ∷ ks) i zero k (first, rest) e = rw add-zero (cc)
-stand_at names ts (a ∷ ks) i (suc m) k (first, rest) e =
+pub stand_at : (names : List (List ℕ)) (text : List ℕ) (ts : List Tok) (ks : List Sort) (i m : ℕ) (k : Sort) → Stand names text ts ks i → slice_get ks m ≡ Some k → sort_at ts (i + m) ≡ k
+stand_at names text ts [] i m k h e = absurd (cc)
+stand_at names text ts (a ∷ ks) i zero k (first, rest) e = rw add-zero (cc)
+stand_at names text ts (a ∷ ks) i (suc m) k (first, rest) e =
     let same : i + 1 + m ≡ i + suc m = omega arith in
-    rw same at (stand_at names ts ks (i + 1) m k rest e)
+    rw same at (stand_at names text ts ks (i + 1) m k rest e)
 
 -- tokens keep their sorts
-pub stand_moved : (names : List (List ℕ)) (ts : List Tok) (c : Change) (ks : List Sort) (i : ℕ) → Stand names ts ks i → Stand names (map (moved_tok c) ts) ks i
-stand_moved names ts c [] i h = tt
-stand_moved names ts c (k ∷ ks) i (first, rest) = (sort_at-moved c ts i ∙ first, stand_moved names ts c ks (i + 1) rest)
+pub stand_moved : (names : List (List ℕ)) (text new : List ℕ) (ts : List Tok) (c : Change) (ks : List Sort) (i : ℕ) → Stand names text ts ks i → Stand names new (map (moved_tok c) ts) ks i
+stand_moved names text new ts c [] i h = tt
+stand_moved names text new ts c (k ∷ ks) i (first, rest) = (sort_at-moved c ts i ∙ first, stand_moved names text new ts c ks (i + 1) rest)
 
 -- ---- a change at the first of two words
 
@@ -94,13 +94,13 @@ abbrev pub other_in : Option Sort → Bool
 other_in None = false
 other_in (Some k) = is_other k
 
--- a token before such a one begins elsewhere, and keeps its text
+-- a token before such a one begins elsewhere, and keeps its name
 pub record Keeps (ts : List Tok) (c : Change) : Type 0 where
   pub elsewhere : (i : ℕ) → is_other (sort_at ts (i + 1)) ≡ true → (from_at ts i == c.from) ≡ false
-  pub text : (i : ℕ) → is_other (sort_at ts (i + 1)) ≡ true → text_at (map (moved_tok c) ts) i ≡ text_at ts i
+  pub name : (i : ℕ) → is_other (sort_at ts (i + 1)) ≡ true → name_at (map (moved_tok c) ts) i ≡ name_at ts i
 
 pub keeps : (ts : List Tok) (c : Change) (k : ℕ) → InOrder ts → IsFirst ts c k → Keeps ts c
-keeps ts c k order first = record { elsewhere = elsewhere; text = kept }
+keeps ts c k order first = record { elsewhere = elsewhere; name = kept }
   where
     word : sort_at ts k ≡ s.Word
     word = first.word
@@ -122,26 +122,26 @@ keeps ts c k order first = record { elsewhere = elsewhere; text = kept }
         let other_byte = apart i other (within i other) in
         grind (arith, nat_tests)
 
-    kept : (i : ℕ) → is_other (sort_at ts (i + 1)) ≡ true → text_at (map (moved_tok c) ts) i ≡ text_at ts i
-    kept i other = text_at-moved c ts i (within i other) ∙ rw (elsewhere i other) refl
+    kept : (i : ℕ) → is_other (sort_at ts (i + 1)) ≡ true → name_at (map (moved_tok c) ts) i ≡ name_at ts i
+    kept i other = name_at-moved c ts i (within i other) ∙ rw (elsewhere i other) refl
 
 -- The token at place p, the one m behind the first of those that stand: what stands behind it.
-other_at : (names : List (List ℕ)) (ts : List Tok) (ks : List Sort) (i m p : ℕ) → Stand names ts ks i → other_in (slice_get ks (suc m)) ≡ true → p ≡ i + m
+other_at : (names : List (List ℕ)) (text : List ℕ) (ts : List Tok) (ks : List Sort) (i m p : ℕ) → Stand names text ts ks i → other_in (slice_get ks (suc m)) ≡ true → p ≡ i + m
     → is_other (sort_at ts (p + 1)) ≡ true
-other_at names ts ks i m p stand other same = by_case (slice_get ks (suc m)) refl other
+other_at names text ts ks i m p stand other same = by_case (slice_get ks (suc m)) refl other
   where
     by_case : (o : Option Sort) → slice_get ks (suc m) ≡ o → other_in o ≡ true → is_other (sort_at ts (p + 1)) ≡ true
     by_case None e is = absurd (cc)
     by_case (Some k) e is =
         let behind : p + 1 ≡ i + suc m = omega arith in
-        rw (behind, stand_at names ts ks i (suc m) k stand e) is
+        rw (behind, stand_at names text ts ks i (suc m) k stand e) is
 
--- its text
-pub kept_at : (names : List (List ℕ)) (ts : List Tok) (c : Change) → Keeps ts c → (ks : List Sort) (i m p : ℕ) → Stand names ts ks i
-    → other_in (slice_get ks (suc m)) ≡ true → p ≡ i + m → text_at (map (moved_tok c) ts) p ≡ text_at ts p
-kept_at names ts c kept ks i m p stand other same = kept.text p (other_at names ts ks i m p stand other same)
+-- its name
+pub kept_at : (names : List (List ℕ)) (text : List ℕ) (ts : List Tok) (c : Change) → Keeps ts c → (ks : List Sort) (i m p : ℕ) → Stand names text ts ks i
+    → other_in (slice_get ks (suc m)) ≡ true → p ≡ i + m → name_at (map (moved_tok c) ts) p ≡ name_at ts p
+kept_at names text ts c kept ks i m p stand other same = kept.name p (other_at names text ts ks i m p stand other same)
 
 -- its first byte
-pub elsewhere_at : (names : List (List ℕ)) (ts : List Tok) (c : Change) → Keeps ts c → (ks : List Sort) (i m p : ℕ) → Stand names ts ks i
+pub elsewhere_at : (names : List (List ℕ)) (text : List ℕ) (ts : List Tok) (c : Change) → Keeps ts c → (ks : List Sort) (i m p : ℕ) → Stand names text ts ks i
     → other_in (slice_get ks (suc m)) ≡ true → p ≡ i + m → (from_at ts p == c.from) ≡ false
-elsewhere_at names ts c kept ks i m p stand other same = kept.elsewhere p (other_at names ts ks i m p stand other same)
+elsewhere_at names text ts c kept ks i m p stand other same = kept.elsewhere p (other_at names text ts ks i m p stand other same)

@@ -1,3 +1,4 @@
 pub mod Roots
 pub mod Locals
+pub mod Literals
 pub mod Order

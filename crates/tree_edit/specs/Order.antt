@@ -1,6 +1,6 @@
 -- Tokens one behind the other.
 use Rattle.std.specs.Prelude.{◌≡◌, ℕ, ◌<◌, ◌≤◌, List, Some, slice_get}
-use Rattle.small_lexer.specs.declared.token.Tok.{Tok}
+use Rattle.java_grammar.specs.declared.token.Tok.{Tok}
 
 -- each token has a byte at least, and ends before the next one begins
 pub record InOrder (ts : List Tok) : Type 0 where

@@ -13,3 +13,4 @@ pub use exprs::number_expr;
 pub use laws::as_many_as_nodes;
 pub use stmts::number_stmt;
 pub use types::number_type;
+pub use vars::{number_param, number_vars};

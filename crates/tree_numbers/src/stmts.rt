@@ -139,7 +139,7 @@ fn number_catch(x: &mut Catch, first: u32) -> u32
     let Catch { node, param, body } = x;
     node.id = first;
     let next = number_param(param, first + 1);
-    number_stmt(body, next)
+    number_stmt(body.get_mut(), next)
 }
 
 #[cycle(stmts)]

@@ -8,7 +8,7 @@ use Rattle.check_decl.proofs.check.main_scope.Goals as goal
 pub returns : goal.returns
 returns c = λ w.
     let u = unit_plain c.args.unit.now in
-    let a = arguments_of c.requires.0 c.requires.1 u c.requires.2 in
+    let a = arguments_of c.requires.0 c.requires.1 c.requires.2 u c.requires.3 in
     elim c.match-main_param.branch [
       | in-Some+in_ok-insert v ↦
           starts u w a (param_plain v.in-Some.arguments.now) c.match-main_param.scope v.in-Some.ensures

@@ -13,7 +13,7 @@ use Rattle.generalize_type.proofs.uses.start_of.Goals as goal
 pub returns-in_err-used-clause-only : goal.returns-in_err-used-clause-only
 returns-in_err-used-clause-only c = λ names text w given n constrained same.
     let u = unit_plain c.args.unit.now in
-    let h = (constrained_use names given.tokens (order names text u w given) u given.spells n constrained).1 in
+    let h = (constrained_use names text given.tokens (order names text u w given) u given.spells n constrained).1 in
     absurd (none written_use (λ x. x.node.id == c.args.number) c.steps_of.result.now (main_steps u) c.steps_of.ensures c.in_err-used.ensures
     h.stmt h.used h.has h.is (is_number _ _ (ap (λ (n : Node). n.id) h.node ∙ same)))
 
@@ -29,8 +29,8 @@ returns-clause-only c = λ names text w given n constrained same.
     let u = unit_plain c.args.unit.now in
     let x = c.in_ok-used.used in
     let first = found written_use (λ x. x.node.id == c.args.number) c.steps_of.result.now (main_steps u) c.steps_of.ensures x c.in_ok-used.ensures in
-    let h = (constrained_use names given.tokens (order names text u w given) u given.spells n constrained).1 in
-    let used = one_use names given.tokens (order names text u w given) u given.spells first.stmt h.stmt x h.used first.has h.has first.is h.is (same_number _ _ first.passes ∙ sym same ∙ ap (λ (n : Node). n.id) (sym h.node)) in
+    let h = (constrained_use names text given.tokens (order names text u w given) u given.spells n constrained).1 in
+    let used = one_use names text given.tokens (order names text u w given) u given.spells first.stmt h.stmt x h.used first.has h.has first.is h.is (same_number _ _ first.passes ∙ sym same ∙ ap (λ (n : Node). n.id) (sym h.node)) in
     ap (λ (x : NameUse). Some x.node.span.from) used ∙ ap (λ (n : Node). Some n.span.from) h.node
 
 pub returns-clause-within : goal.returns-clause-within

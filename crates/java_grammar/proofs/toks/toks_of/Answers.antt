@@ -19,4 +19,4 @@ pub loop-token-preserved : goal.loop-token-preserved
 loop-token-preserved c =
     let at = slice_get-get_or c.args.tokens.now c.loop-token.token-index _ c.loop-token-test.true in
     let one = c.in_ok-tok.ensures in
-    rw c.in_ok-push.ensures.ok (reading_more _ _ _ _ _ _ _ _ _ c.loop-token.invariant at one.tok one.kept one.distinct one.grown)
+    rw c.in_ok-push.ensures.ok (reading_more _ _ _ _ _ _ _ _ _ c.loop-token.invariant at one.tok one.table one.kept one.distinct one.grown)

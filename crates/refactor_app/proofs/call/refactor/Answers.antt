@@ -1,4 +1,4 @@
-use Rattle.refactor_app.proofs.Answering.{told, is_done, is_refused, is_missing, is_read_fault, is_write_fault, is_out_fault, is_no_memory, no_other}
+use Rattle.refactor_app.proofs.Answering.{told, is_done, is_refused, is_usage, is_missing, is_read_fault, is_write_fault, is_out_fault, is_no_memory, no_other}
 use Rattle.refactor_app.proofs.call.refactor.Goals as goal
 
 pub returns : goal.returns
@@ -7,6 +7,7 @@ returns g c =
     record {
       done = λ e. is_done _ _ _ _ t e;
       refused = λ e. is_refused _ _ _ _ t e;
+      usage = λ e. is_usage _ _ _ _ t e;
       missing = λ e. (is_missing _ _ _ _ t e).1;
       missed = λ e. (is_missing _ _ _ _ t e).0;
       read_fault = λ e. (is_read_fault _ _ _ _ t e).1;

@@ -1,0 +1,10 @@
+use Rattle.java_tree.specs.View.{type_plain}
+use Rattle.java_tree.specs.Children as spec
+use Rattle.java_tree.proofs.Founds.{item_in, left_in}
+use Rattle.java_tree.proofs.children.types.Goals as goal
+
+pub returns-in-Some : goal.returns-in-Some
+returns-in-Some c = item_in type_plain spec.TypeExpr c.args.list.now c.args.at _ c.in-Some.ensures.value
+
+pub returns-in-None : goal.returns-in-None
+returns-in-None c = left_in type_plain spec.TypeExpr c.args.list.now c.args.at _ c.len.ensures c.in-None.ensures.value

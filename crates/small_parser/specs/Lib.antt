@@ -1,4 +1,0 @@
-pub mod Nodes
-pub mod Grammar
-pub mod Parse
-pub mod Seen

@@ -1,0 +1,15 @@
+pub mod Places
+pub mod TokenLemmas
+pub mod WordLemmas
+pub mod LexLemmas
+pub mod Bytes
+pub mod ChangeLemmas
+pub mod Forms
+pub mod Units
+pub mod Narrowed
+pub mod Whole
+pub mod Shaped
+pub mod Numbered
+pub mod Spaced
+pub mod OneTree
+pub mod Parts

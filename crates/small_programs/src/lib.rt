@@ -1,0 +1,11 @@
+//! Small programs: the files of which `generalize` can change a local variable today.
+#![tactic(auto)]
+
+pub mod laws;
+mod shape;
+mod small;
+mod spaces;
+#[cfg(test)]
+mod tests;
+
+pub use small::is_small;

@@ -1,0 +1,10 @@
+//! The files of a program: their texts, and their trees (JLS 3rd edition, 7.3).
+#![tactic(auto)]
+
+mod read;
+#[cfg(test)]
+mod tests;
+mod trees;
+
+pub use read::{ReadStop, read_files};
+pub use trees::{Parsed, TreeStop, parse_files};

@@ -1,0 +1,5 @@
+pub mod Calls
+pub mod Declarations
+pub mod Depths
+pub mod Numbers
+pub mod Sizes
