@@ -179,7 +179,13 @@ fn the_lowest_rule_on_words_is_named(rt: HostRuntime) -> Result<(), Fail> {
     assert!(rt; misuses(alloc, "extract A.java", b"usage U1\n")?);
     assert!(rt; misuses(alloc, "generalize out A.java 05 5 1 --", b"usage U3\n")?);
     assert!(rt; misuses(alloc, "generalize . A.java 5 5 1 -- A.java", b"usage U5\n")?);
-    assert!(rt; misuses(alloc, "generalize out A.java 5 5 A -- B.java + A.java", b"usage U8\n")?);
+    assert!(rt;
+        misuses(
+            alloc,
+            "generalize out A.java 5 5 A -- B.java + A.java",
+            b"usage U8\n"
+        )?
+    );
     let nothing = Vec::new(alloc);
     let mut files = files(alloc, FIRST, &[1])?;
     let mut out = sink(alloc, &[])?;
@@ -213,8 +219,14 @@ fn texts_are_read_by_the_whole_grammar(rt: HostRuntime) -> Result<(), Fail> {
 fn two_files_are_no_small_program(rt: HostRuntime) -> Result<(), Fail> {
     let alloc = rt.alloc();
     let mut list = Vec::new(alloc);
-    list.push((String::from_str(alloc, "a/A.java")?, Vec::from_slice(alloc, FIRST)?))?;
-    list.push((String::from_str(alloc, "B.java")?, Vec::from_slice(alloc, b"class C { }")?))?;
+    list.push((
+        String::from_str(alloc, "a/A.java")?,
+        Vec::from_slice(alloc, FIRST)?,
+    ))?;
+    list.push((
+        String::from_str(alloc, "B.java")?,
+        Vec::from_slice(alloc, b"class C { }")?,
+    ))?;
     let mut files = MemFiles::new(alloc, list, Vec::new(alloc))?;
     files.reserve(2, 4096)?;
     let mut out = sink(alloc, &[])?;
