@@ -913,7 +913,7 @@ fn put_catches(out: &mut String, look: Look<'_>, catches: &[Catch]) -> Result<()
         out.push_str("(catch ")?;
         put_param(out, look, &caught.param)?;
         out.push_str(" ")?;
-        put_stmt(out, look, &caught.body)?;
+        put_stmt(out, look, caught.body.get())?;
         out.push_str(")")?;
     }
     Ok(())
