@@ -36,7 +36,7 @@ with_word_table kind.Char w names is = is
 with_word_table kind.Text w names is = is
 with_word_table kind.Op w names is = is
 
-interned_table : (text : List ℕ) (xs : List Token) (names : List (List ℕ)) → IsTable names → IsTable (interned text xs names)
+pub interned_table : (text : List ℕ) (xs : List Token) (names : List (List ℕ)) → IsTable names → IsTable (interned text xs names)
 interned_table text [] names is = is
 interned_table text (x ∷ xs) names is = interned_table text xs (with_word x.kind (bytes_in text x.span) names) (with_word_table x.kind (bytes_in text x.span) names is)
 
