@@ -1,5 +1,5 @@
 -- The answers of the call exclude each other.
-use Rattle.std.proofs.Common.{◌≡◌, ℕ, ◌≤◌, ◌⊎◌, inl, inr, List, Option, Some, length, refl, ap, subst, arith}
+use Rattle.std.proofs.Common.{◌≡◌, ℕ, ◌≤◌, inl, inr, List, Option, Some, length, refl, ap, subst, arith}
 use Rattle.tool_files.specs.Told.{Look}
 use Rattle.refactor_app.specs.Words.{Request, inputs, Asks, AskOther}
 use Rattle.refactor_app.specs.Refusals.{most_files, AsksFew}

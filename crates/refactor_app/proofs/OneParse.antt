@@ -1,5 +1,5 @@
 -- Texts have their trees, or one of them is the first that breaks a rule: one rule, at one byte where the rule is not G1.
-use Rattle.std.proofs.Common.{◌≡◌, ℕ, zero, suc, ◌+◌, ◌<◌, ◌≤◌, ◌⊎◌, inl, inr, List, [], ◌∷◌, length, slice_get, Some, None, refl, sym, ◌∙◌, ap, subst, arith}
+use Rattle.std.proofs.Common.{◌≡◌, ℕ, zero, suc, ◌+◌, ◌<◌, ◌≤◌, ◌⊎◌, inl, inr, List, [], ◌∷◌, length, slice_get, Some, refl, sym, ◌∙◌, ap, subst, arith}
 use Rattle.std.proofs.lemmas.Bool.{cases_order}
 use Rattle.java_tree.specs.Names.{IsTable}
 use Rattle.java_tree.specs.Plain.{SourceUnit}
@@ -119,5 +119,5 @@ one_break names first count (x ∷ xs) zero (suc k) f g table a (ts, allowed, u,
 one_break names first count (x ∷ xs) (suc j) zero f g table (ts, allowed, u, is, breaks) b = absurd (tree_or_breaks names first count x ts u g allowed is b)
 one_break names first count (x ∷ xs) (suc j) (suc k) f g table (ts, allowed, u, is, breaks) (vs, allowed', v, so, breaks') =
     let rest = one_break (interned x ts names) (first + size.unit u) (count + length ts) xs j k f g (interned_table x ts names table) breaks
-        (behind names first count x (λ ns n m. BreaksAt ns n m xs k g) ts vs u v table allowed allowed' is so breaks') in
+    (behind names first count x (λ ns n m. BreaksAt ns n m xs k g) ts vs u v table allowed allowed' is so breaks') in
     (ap suc rest.0, rest.1)

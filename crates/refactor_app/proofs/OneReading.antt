@@ -1,5 +1,5 @@
 -- Files, whose contents are told, hold one list of texts or stop the reading at one file; and which reads may fail.
-use Rattle.std.proofs.Common.{◌≡◌, ◌≢◌, ℕ, zero, suc, ◌+◌, ◌<◌, ◌≤◌, ◌⊎◌, inl, inr, ◌↔◌, List, [], ◌∷◌, length, Option, Some, None, refl, sym, ◌∙◌, ap, subst, arith}
+use Rattle.std.proofs.Common.{◌≡◌, ◌≢◌, ℕ, zero, suc, ◌+◌, ◌<◌, ◌≤◌, inl, inr, ◌↔◌, List, [], ◌∷◌, length, Some, refl, sym, ◌∙◌, ap, subst, arith}
 use Rattle.std.proofs.lemmas.Bool.{cases_order}
 use Rattle.tool_files.specs.Told.{Look}
 use Rattle.source_files.specs.Held.{AreHeld, Stop, StopsAt, StopsHere, HasRoom, Missing, Failed, TooLarge, TooMuch}
@@ -118,22 +118,28 @@ module _ (look : Look) where
       missing_fails (before + length x) ns k g (behind before ns x y k Failed (one_text n y x f e) h)
 
   pub faults_missing : (names : List (List ℕ)) (j k : ℕ) → StopsAt (Some look) 0 names j Missing → StopsAt (Some look) 0 names k Failed ↔ k < j
-  faults_missing names j k g = (λ h. elim (cases_order j k) [
-        | inl same ↦ absurd (missing_fails 0 names k (subst (λ (i : ℕ). StopsAt (Some look) 0 names i Missing) same g) h)
-        | inr (inl less) ↦ absurd (let is = no_stop_before 0 names j k Missing Failed g h less in cc)
-        | inr (inr more) ↦ more
-      ], λ less. fails_before 0 names j k Missing g less)
+  faults_missing names j k g = (
+    λ h. elim (cases_order j k) [
+      | inl same ↦ absurd (missing_fails 0 names k (subst (λ (i : ℕ). StopsAt (Some look) 0 names i Missing) same g) h)
+      | inr (inl less) ↦ absurd (let is = no_stop_before 0 names j k Missing Failed g h less in cc)
+      | inr (inr more) ↦ more
+    ],
+    λ less. fails_before 0 names j k Missing g less,
+  )
 
   pub faults_large : (names : List (List ℕ)) (j k : ℕ) (s : Stop) → s ≢ Missing → s ≢ Failed → StopsAt (Some look) 0 names j s → StopsAt (Some look) 0 names k Failed ↔ k ≤ j
-  faults_large names j k s there read g = (λ h. elim (cases_order j k) [
-        | inl same ↦ omega (arith, same)
-        | inr (inl less) ↦ absurd (read (no_stop_before 0 names j k s Failed g h less))
-        | inr (inr more) ↦ omega (arith, more)
-      ], λ low. elim (cases_order j k) [
-        | inl same ↦ subst (λ (i : ℕ). StopsAt (Some look) 0 names i Failed) same (fails_at 0 names j s there g)
-        | inr (inl less) ↦ absurd (omega (arith, less, low))
-        | inr (inr more) ↦ fails_before 0 names j k s g more
-      ])
+  faults_large names j k s there read g = (
+    λ h. elim (cases_order j k) [
+      | inl same ↦ omega (arith, same)
+      | inr (inl less) ↦ absurd (read (no_stop_before 0 names j k s Failed g h less))
+      | inr (inr more) ↦ omega (arith, more)
+    ],
+    λ low. elim (cases_order j k) [
+      | inl same ↦ subst (λ (i : ℕ). StopsAt (Some look) 0 names i Failed) same (fails_at 0 names j s there g)
+      | inr (inl less) ↦ absurd (omega (arith, less, low))
+      | inr (inr more) ↦ fails_before 0 names j k s g more
+    ],
+  )
 
   pub faults_held : (names texts : List (List ℕ)) (k : ℕ) → AreHeld (Some look) 0 names texts → StopsAt (Some look) 0 names k Failed ↔ k < length names
   faults_held names texts k h = (λ g. fails_low 0 names k Failed g, λ less. fails_held 0 names texts k h less)

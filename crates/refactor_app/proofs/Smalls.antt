@@ -1,6 +1,6 @@
 -- One text has one small program.
-use Rattle.std.proofs.Common.{◌≡◌, ℕ, ◌<◌, ◌≤◌, Bool, true, false, List, [], ◌∷◌, length, refl, sym, ◌∙◌, ap, subst, arith}
-use Rattle.java_tree.specs.Names.{AreDistinct, IsTable, built_in_names, with_text}
+use Rattle.std.proofs.Common.{◌≡◌, ℕ, List, [], ◌∷◌, refl, sym, ◌∙◌, ap, subst}
+use Rattle.java_tree.specs.Names.{AreDistinct, IsTable, built_in_names}
 use Rattle.java_tree.proofs.Tables.{built_in_table, with_text_table}
 use Rattle.java_tree.specs.View.{unit_plain}
 use Rattle.java_tree.specs.declared.tree.SourceUnit.{SourceUnit}

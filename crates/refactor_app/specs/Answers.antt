@@ -1,5 +1,5 @@
 -- What an answer of `refactor` says of the words, of what the files held and hold, and of what was put.
-use Rattle.std.specs.Prelude.{◌≡◌, ℕ, ◌⊎◌, List, [], ◌∷◌, Option, Some, None, slice_get}
+use Rattle.std.specs.Prelude.{◌≡◌, ℕ, ◌⊎◌, List, [], ◌∷◌, Option, Some, slice_get}
 use Rattle.java_tree.specs.Plain.{SourceUnit}
 use Rattle.tool_files.specs.Told.{Look, Rose, SameBut, WhereTold, PutsAt, Appends, AppendsSome}
 use Rattle.command_words.specs.Rules.{IsLowest}
