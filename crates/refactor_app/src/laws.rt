@@ -44,12 +44,12 @@ pub fn answers_exclude()
     ensures refused { Excludes IsRefused IsDone × Excludes IsRefused IsWriteFault }
 {}
 
-/// A read fault hangs on the run, too: any file that is there may fail to be read, where those before it are read. So it excludes an answer
-/// by words, by the count of files and by the files before it, and no other.
+/// A read fault hangs on the run, too: any file that is there may fail to be read, where the files before it are read. So it excludes what the words
+/// and the count of files bring, a stop at a file before it, and that it is absent itself, and nothing else.
 pub fn read_faults()
     ensures words { (words : List (List ℕ)) (q r : Request) → AsksFew words q → (AskOther words → ⊥) × (Asks words r → length (inputs r) ≤ most_files) }
-    ensures missing { (look : Look) (names : List (List ℕ)) (j k : ℕ) → StopsAt (Some look) 0 names j Missing → StopsAt (Some look) 0 names k Failed ↔ k < j }
+    ensures missing { (look : Look) (names : List (List ℕ)) (j k : ℕ) → StopsAt (Some look) 0 names j Missing → (StopsAt (Some look) 0 names k Failed ↔ k < j) }
     ensures large { (look : Look) (names : List (List ℕ)) (j k : ℕ) (stop : Stop) → stop ≢ Missing → stop ≢ Failed → StopsAt (Some look) 0 names j stop
-        → StopsAt (Some look) 0 names k Failed ↔ k ≤ j }
-    ensures read { (look : Look) (names texts : List (List ℕ)) (k : ℕ) → AreHeld (Some look) 0 names texts → StopsAt (Some look) 0 names k Failed ↔ k < length names }
+        → (StopsAt (Some look) 0 names k Failed ↔ k ≤ j) }
+    ensures read { (look : Look) (names texts : List (List ℕ)) (k : ℕ) → AreHeld (Some look) 0 names texts → (StopsAt (Some look) 0 names k Failed ↔ k < length names) }
 {}
