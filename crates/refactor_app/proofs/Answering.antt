@@ -3,11 +3,9 @@ use Rattle.std.proofs.Common.{◌≡◌, ℕ, inl, inr, List, ◌++◌, Option, 
 use Rattle.tool_files.specs.Told.{Rose, Appends, AppendsSome}
 use Rattle.refactor_app.specs.declared.status.Status.{Status}
 use Rattle.refactor_app.specs.declared.status.Status.TheVariants as s
-use Rattle.refactor_app.specs.Answers.{IsDone, IsRefused, IsUsage, IsMissing, IsReadFault, IsWriteFault, IsOutFault, IsOne, IsCut, IsChange}
+use Rattle.refactor_app.specs.Answers.{IsDone, IsRefused, IsUsage, IsMissing, IsReadFault, IsWriteFault, IsOutFault, IsOne, IsCut}
 use Rattle.refactor_app.specs.Course.{Moment, EndsAt, Course}
 use Rattle.refactor_app.specs.Course as way
-use Rattle.refactor_app.specs.Words.{Request}
-use Rattle.edit_writer.specs.declared.edits.Edit.{Edit}
 
 -- what was told before the put is told after it
 whole_of : (before after : Option (List ℕ)) (report : List ℕ) → AppendsSome before after report → (whole : Option (List ℕ)) × Appends before whole report
@@ -31,10 +29,6 @@ pub data Told (words : List (List ℕ)) (a b : Moment) (st : Status) : Type 0 wh
   out_fault : st ≡ s.OutFault → Rose a.faults b.faults → IsOutFault words a.holds b.holds a.put b.put → Told words a b st
   no_memory : st ≡ s.NoMemory → b.holds ≡ a.holds → b.put ≡ a.put → Told words a b st
 
--- a change says nothing of what is held and put later
-asked : (words : List (List ℕ)) (a b : Moment) (put : Option (List ℕ)) (q : Request) (made : List ℕ) (e : Edit) → way.IsAsked words a q made e → IsChange words a.holds b.holds a.put put q made e
-asked words a b put q made e h = record { text = h.text; names = h.names; unit = h.unit; parsed = h.parsed; alone = h.alone; changes = h.changes }
-
 pub told : (words : List (List ℕ)) (a b : Moment) (st : Status) → Course words a b st → Told words a b st
 told words a b st (way.Course.usages {rule = n} lowest same ends) = elim ends [
   | inl e ↦ usage e.0 (record { rule = n; lowest = lowest; report = e.1; nothing = same })
@@ -53,12 +47,12 @@ told words a b st (way.Course.refuses {line = line} r same ends) = elim ends [
   | inr c ↦ let o = cut words a b _ c.1 (λ whole p. inr (inl (record { line = line; refusal = r; report = p; nothing = same }))) in out_fault c.0 o.0 o.1
 ]
 told words a b st (way.Course.writes {q = q} {made = made} {e = x} change w ends) = elim ends [
-  | inl e ↦ done e.0 (record { q = q; made = made; edit = x; change = asked words a b b.put q made x change; written = w; report = e.1 })
-  | inr c ↦ let o = cut words a b _ c.1 (λ whole p. inl (record { q = q; made = made; edit = x; change = asked words a b whole q made x change; written = w; report = p })) in out_fault c.0 o.0 o.1
+  | inl e ↦ done e.0 (record { q = q; made = made; edit = x; change = change; written = w; report = e.1 })
+  | inr c ↦ let o = cut words a b _ c.1 (λ whole p. inl (record { q = q; made = made; edit = x; change = change; written = w; report = p })) in out_fault c.0 o.0 o.1
 ]
 told words a b st (way.Course.fails {q = q} {made = made} {e = x} change w rose ends) = elim ends [
-  | inl e ↦ write_fault e.0 rose (record { q = q; made = made; edit = x; change = asked words a b b.put q made x change; others = w; report = e.1 })
-  | inr c ↦ let o = cut words a b _ c.1 (λ whole p. inr (inr (inr (inr (inr (record { q = q; made = made; edit = x; change = asked words a b whole q made x change; others = w; report = p })))))) in out_fault c.0 o.0 o.1
+  | inl e ↦ write_fault e.0 rose (record { q = q; made = made; edit = x; change = change; others = w; report = e.1 })
+  | inr c ↦ let o = cut words a b _ c.1 (λ whole p. inr (inr (inr (inr (inr (record { q = q; made = made; edit = x; change = change; others = w; report = p })))))) in out_fault c.0 o.0 o.1
 ]
 told words a b st (way.Course.no_memory same put is) = no_memory is same put
 

@@ -1,6 +1,6 @@
 -- From what a call's parts ensure to the way that it goes.
-use Rattle.std.proofs.Common.{◌≡◌, ◌≢◌, ℕ, zero, suc, ◌+◌, ◌<◌, ◌≤◌, ◌⊎◌, inl, inr, true, false, ◌||◌, Bool, List, [], ◌∷◌, ◌++◌, length, map, get_or, Option, Some, None, slice_get, Result, Ok, Err, IfOk, refl, sym, ◌∙◌, ap, subst, arith}
-use Rattle.std.specs.Prelude.{OnErr, codes}
+use Rattle.std.proofs.Common.{◌≡◌, ◌≢◌, ℕ, zero, suc, ◌+◌, ◌<◌, ◌≤◌, ◌⊎◌, inl, inr, true, Bool, List, [], ◌∷◌, ◌++◌, length, map, get_or, Option, Some, slice_get, Result, Ok, Err, IfOk, refl, sym, ◌∙◌, ap, subst, arith}
+use Rattle.std.specs.Prelude.{OnErr}
 use Rattle.std.specs.Str.{bytes_eq}
 use Rattle.std.specs.String.{string_bytes}
 use Rattle.std.specs.declared.string.String.{String}
@@ -16,7 +16,7 @@ use Rattle.command_words.specs.Names.{is_among, IsIdentifier}
 use Rattle.command_words.specs.Table.{parts_of}
 use Rattle.command_words.specs.declared.table.Command.TheVariants as command
 use Rattle.edit_writer.specs.declared.edits.Edit.{Edit}
-use Rattle.report_text.specs.Report.{refused, edit_report, write_fault}
+use Rattle.report_text.specs.Report.{edit_report, write_fault}
 use Rattle.java_grammar.specs.Interned.{interned}
 use Rattle.unit_grammar.specs.Sizes as size
 use Rattle.command_words.specs.declared.request.Request as words_of
@@ -28,7 +28,7 @@ use Rattle.source_files.specs.declared.read.ReadStop.TheVariants as read
 use Rattle.source_files.specs.declared.trees.TreeStop.{TreeStop}
 use Rattle.source_files.specs.declared.trees.TreeStop.TheVariants as tree
 use Rattle.source_files.specs.Held.{AreHeld, AreSmall, Stop, StopsAt, Missing, Failed}
-use Rattle.source_files.specs.Trees.{AreTrees, BreaksAt, Lexical, Tokens, LeftOut, NoTree}
+use Rattle.source_files.specs.Trees.{AreTrees, Lexical, Tokens, LeftOut, NoTree}
 use Rattle.source_files.specs.Answers as files
 use Rattle.refactor_app.specs.declared.status.Status.{Status}
 use Rattle.refactor_app.specs.declared.status.Status.TheVariants as s
@@ -39,10 +39,9 @@ use Rattle.refactor_app.specs.Decided.{IsChange}
 use Rattle.refactor_app.specs.Refusals.{AsksFew, HasParsed, Refusal}
 use Rattle.refactor_app.specs.Refusals as refusal
 use Rattle.refactor_app.specs.Answers.{Ends}
-use Rattle.refactor_app.specs.Answers as answers
 use Rattle.refactor_app.specs.Course.{Moment, EndsAt, Finishes, Sequel, Course, IsAsked}
 use Rattle.refactor_app.specs.Course as way
-use Rattle.refactor_app.specs.Stops.{EndsOrNot, Stops, TellsStop, IsNamed}
+use Rattle.refactor_app.specs.Stops.{Stops, TellsStop, IsNamed}
 
 pub refuse : (q : Request) (text line bytes : List ℕ) (a b : Moment) (st : Status) → bytes ≡ line → Refuses q text line → b.holds ≡ a.holds → EndsAt a b bytes s.Refused st → Sequel q text a b st
 refuse q text line bytes a b st e r same ends = way.Sequel.refuses r same (subst (λ (x : List ℕ). EndsAt a b x s.Refused st) e ends)

@@ -1,5 +1,5 @@
 -- The places of what is broken in texts.
-use Rattle.std.proofs.Common.{◌≡◌, ℕ, Bool, false, not, ◌&&◌, zero, suc, ◌+◌, ◌<◌, ◌≤◌, ◌⊎◌, inl, inr, List, [], ◌∷◌, length, Some, Err, slice_get, refl, subst, arith}
+use Rattle.std.proofs.Common.{◌≡◌, ℕ, Bool, false, not, ◌&&◌, zero, suc, ◌+◌, ◌<◌, ◌≤◌, inl, inr, List, [], ◌∷◌, length, Some, Err, slice_get, refl, subst, arith}
 use Rattle.java_tree.specs.Names.{built_in_names}
 use Rattle.java_tree.specs.declared.tree.Token.{Token}
 use Rattle.java_lexer.specs.Lexing.{Lexes, Fails}
@@ -8,7 +8,6 @@ use Rattle.java_lexer.specs.Encoding.{IsEscapeAt, IsFirstOdd}
 use Rattle.java_lexer.proofs.TokenLemmas as tokens
 use Rattle.java_grammar.specs.Interned.{interned}
 use Rattle.unit_grammar.specs.Sizes as size
-use Rattle.source_files.specs.declared.trees.TreeStop.{TreeStop}
 use Rattle.source_files.specs.declared.trees.TreeStop.TheVariants as tree
 use Rattle.source_files.specs.Held.{AreSmall}
 use Rattle.source_files.specs.Trees.{Fault, Lexical, Tokens, LeftOut, NoTree, IsTokenPlace, BreaksHere, BreaksAt}

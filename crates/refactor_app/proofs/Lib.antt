@@ -3,6 +3,11 @@ pub mod Asking
 pub mod Changing
 pub mod Courses
 pub mod Deciding
+pub mod Excluding
 pub mod Faults
+pub mod OneOutcome
+pub mod OneParse
+pub mod OneReading
+pub mod OneSense
 pub mod OneVerdict
 pub mod Smalls

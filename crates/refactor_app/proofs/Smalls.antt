@@ -1,6 +1,6 @@
 -- One text has one small program.
-use Rattle.std.proofs.Common.{◌≡◌, ℕ, ◌<◌, ◌≤◌, Bool, true, false, List, [], ◌∷◌, length, refl, sym, ◌∙◌, ap, subst, arith}
-use Rattle.java_tree.specs.Names.{AreDistinct, IsTable, built_in_names, with_text}
+use Rattle.std.proofs.Common.{◌≡◌, ℕ, List, [], ◌∷◌, refl, sym, ◌∙◌, ap, subst}
+use Rattle.java_tree.specs.Names.{AreDistinct, IsTable, built_in_names}
 use Rattle.java_tree.proofs.Tables.{built_in_table, with_text_table}
 use Rattle.java_tree.specs.View.{unit_plain}
 use Rattle.java_tree.specs.declared.tree.SourceUnit.{SourceUnit}
@@ -36,7 +36,7 @@ with_word_table kind.Char w names is = is
 with_word_table kind.Text w names is = is
 with_word_table kind.Op w names is = is
 
-interned_table : (text : List ℕ) (xs : List Token) (names : List (List ℕ)) → IsTable names → IsTable (interned text xs names)
+pub interned_table : (text : List ℕ) (xs : List Token) (names : List (List ℕ)) → IsTable names → IsTable (interned text xs names)
 interned_table text [] names is = is
 interned_table text (x ∷ xs) names is = interned_table text xs (with_word x.kind (bytes_in text x.span) names) (with_word_table x.kind (bytes_in text x.span) names is)
 

@@ -1,5 +1,5 @@
 -- What an answer of `refactor` says of the words, of what the files held and hold, and of what was put.
-use Rattle.std.specs.Prelude.{◌≡◌, ℕ, ◌⊎◌, List, [], ◌∷◌, Option, Some, None, slice_get}
+use Rattle.std.specs.Prelude.{◌≡◌, ℕ, ◌⊎◌, List, [], ◌∷◌, Option, Some, slice_get}
 use Rattle.java_tree.specs.Plain.{SourceUnit}
 use Rattle.tool_files.specs.Told.{Look, Rose, SameBut, WhereTold, PutsAt, Appends, AppendsSome}
 use Rattle.command_words.specs.Rules.{IsLowest}
@@ -11,6 +11,15 @@ use Rattle.refactor_app.specs.Words.{Request, inputs, IsAlone, out_name}
 use Rattle.report_text.specs.Report.{usage, edit_report, missing, read_fault, write_fault}
 use Rattle.refactor_app.specs.Verdicts.{Changes}
 use Rattle.refactor_app.specs.Refusals.{AsksFew, HasParsed, Refusal}
+
+-- the change of a file, its only one, that the words ask for
+pub record IsChange (words : List (List ℕ)) (old : Option Look) (q : Request) (made : List ℕ) (edit : Edit) : Type 0 where
+  pub text : List ℕ
+  pub names : List (List ℕ)
+  pub unit : SourceUnit
+  pub parsed : HasParsed words old q (text ∷ []) names (unit ∷ [])
+  pub alone : IsAlone q
+  pub changes : Changes q text made edit
 
 -- the contents before and after, and what was put before and after
 module _ (words : List (List ℕ)) (old new : Option Look) (before after : Option (List ℕ)) where
@@ -28,21 +37,12 @@ module _ (words : List (List ℕ)) (old new : Option Look) (before after : Optio
     pub report : Puts (usage rule)
     pub nothing : NothingWritten
 
-  -- the change of a file, its only one, that is asked for
-  pub record IsChange (q : Request) (made : List ℕ) (edit : Edit) : Type 0 where
-    pub text : List ℕ
-    pub names : List (List ℕ)
-    pub unit : SourceUnit
-    pub parsed : HasParsed words old q (text ∷ []) names (unit ∷ [])
-    pub alone : IsAlone q
-    pub changes : Changes q text made edit
-
   -- Done: the new file holds the text of the edit, every other name is as before, and the report tells the edit.
   pub record IsDone : Type 0 where
     pub q : Request
     pub made : List ℕ
     pub edit : Edit
-    pub change : IsChange q made edit
+    pub change : IsChange words old q made edit
     pub written : WhereTold old new (PutsAt (out_name q) made)
     pub report : Puts (edit_report q.file edit)
 
@@ -80,7 +80,7 @@ module _ (words : List (List ℕ)) (old new : Option Look) (before after : Optio
     pub q : Request
     pub made : List ℕ
     pub edit : Edit
-    pub change : IsChange q made edit
+    pub change : IsChange words old q made edit
     pub others : WhereTold old new (SameBut (out_name q))
     pub report : Puts (write_fault (out_name q))
 

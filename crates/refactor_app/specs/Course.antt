@@ -28,7 +28,7 @@ EndsAt a b = Ends a.put b.put a.faults b.faults
 
 -- a change that is asked for of what the files held first
 abbrev pub IsAsked : List (List ℕ) → Moment → Request → List ℕ → Edit → Type 0
-IsAsked words a = IsChange words a.holds a.holds a.put a.put
+IsAsked words a = IsChange words a.holds
 
 pub data Course (words : List (List ℕ)) (a b : Moment) (status : Status) : Type 0 where
   usages : {rule : ℕ} → IsLowest words rule → b.holds ≡ a.holds → EndsAt a b (usage rule) s.Usage status → Course words a b status

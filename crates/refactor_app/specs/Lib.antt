@@ -8,3 +8,4 @@ pub mod Refusals
 pub mod Stops
 pub mod Answers
 pub mod Course
+pub mod Outcomes

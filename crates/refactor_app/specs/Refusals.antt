@@ -1,5 +1,5 @@
 -- The first rule that stands against words and files.
-use Rattle.std.specs.Prelude.{◌≡◌, ◌≢◌, ◌<◌, ◌≤◌, ℕ, List, [], ◌∷◌, ◌++◌, length, Option, Some, slice_get, codes}
+use Rattle.std.specs.Prelude.{◌≡◌, ◌<◌, ◌≤◌, ℕ, List, [], ◌∷◌, ◌++◌, length, Option, Some, slice_get, codes}
 use Rattle.std.specs.Fmt.{decimal}
 use Rattle.java_tree.specs.Names.{built_in_names}
 use Rattle.java_tree.specs.Plain.{SourceUnit}

@@ -1,6 +1,6 @@
 -- Small programs, as the code has them.
 use Rattle.std.specs.Prelude.{ℕ, List, [], ◌∷◌}
-use Rattle.java_tree.specs.Names.{IsTable, built_in_names}
+use Rattle.java_tree.specs.Names.{built_in_names}
 use Rattle.java_tree.specs.View.{unit_plain}
 use Rattle.java_tree.specs.declared.tree.SourceUnit.{SourceUnit}
 use Rattle.java_grammar.specs.declared.token.Tok.{Tok}

@@ -4,7 +4,7 @@ use Rattle.source_files.specs.declared.read.ReadStop.{ReadStop}
 use Rattle.source_files.specs.declared.read.ReadStop.TheVariants as read
 use Rattle.source_files.specs.declared.trees.TreeStop.{TreeStop}
 use Rattle.source_files.specs.declared.trees.TreeStop.TheVariants as tree
-use Rattle.source_files.specs.Trees.{Lexical, Tokens, LeftOut, NoTree}
+use Rattle.source_files.specs.Trees.{Lexical, LeftOut, NoTree}
 use Rattle.report_text.specs.Report.{refused, missing, read_fault}
 use Rattle.refactor_app.specs.declared.status.Status.{Status}
 use Rattle.refactor_app.specs.declared.status.Status.TheVariants as s

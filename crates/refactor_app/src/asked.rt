@@ -1,6 +1,6 @@
 //! The words of a request for a change.
 
-ghost use Rattle.std.specs.Prelude.{◌≡◌, ℕ, ◌<◌, ◌≤◌, map, length, List, ◌++◌, OnOk, IfOk, IfSome, IfNone};
+ghost use Rattle.std.specs.Prelude.{◌≡◌, ℕ, map, List, ◌++◌, OnOk, IfOk, IfSome, IfNone};
 ghost use Rattle.std.specs.String.{string_bytes};
 ghost use Rattle.command_words.specs.declared.table.Command.TheVariants as command;
 ghost use Rattle.command_words.specs.Asked as asked_words;

@@ -1,20 +1,16 @@
 //! The top call.
 
-ghost use Rattle.std.specs.Prelude.{◌≡◌, ◌≢◌, ◌≤◌, ◌⊎◌, ℕ, List, [], ◌∷◌, length, map, Ok, Err, IfOk, OnErr, codes};
+ghost use Rattle.std.specs.Prelude.{◌≡◌, ◌≤◌, ℕ, List, length, map, Ok, IfOk, OnErr};
 ghost use Rattle.std.specs.String.{string_bytes};
 ghost use Rattle.command_words.specs.Names.{IsIdentifier};
-ghost use Rattle.command_words.specs.Asked as command;
-ghost use Rattle.tool_files.specs.Told.{Rose, Appends, AppendsSome, WhereTold, SameBut, PutsAt};
-ghost use Rattle.report_text.specs.Report as lines;
+ghost use Rattle.tool_files.specs.Told.{Rose};
 ghost use Rattle.source_files.specs.Held.{AreHeld};
 ghost use Rattle.source_files.specs.Answers.{HasParsed};
-ghost use Rattle.refactor_app.specs.Words.{Request, inputs, Asks};
+ghost use Rattle.refactor_app.specs.Words.{inputs, Asks};
 ghost use Rattle.refactor_app.specs.Asked.{request_of};
 ghost use Rattle.refactor_app.specs.Answers as answers;
 ghost use Rattle.refactor_app.specs.Answers.{IsDone, IsRefused, IsUsage, IsWriteFault, IsOutFault, Ends};
-ghost use Rattle.refactor_app.specs.Decided.{Decides};
 ghost use Rattle.refactor_app.specs.Small.{HasUnit};
-ghost use Rattle.refactor_app.specs.Refusals as refusals;
 ghost use Rattle.refactor_app.specs.Refusals.{AsksFew};
 ghost use Rattle.refactor_app.specs.Course.{Moment, Course, Finishes, Sequel};
 ghost use Rattle.refactor_app.specs.Stops.{IsNamed, Stops};

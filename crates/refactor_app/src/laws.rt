@@ -1,9 +1,14 @@
-//! Laws of verdicts: a request has one on a text, so what is answered is the only answer.
+//! Laws of what is answered. The functions do nothing: their contracts are the laws.
 
-ghost use Rattle.std.specs.Prelude.{◌≡◌, ℕ, List};
+ghost use Rattle.std.specs.Prelude.{◌≡◌, ◌≢◌, ◌<◌, ◌≤◌, ◌⊎◌, ◌↔◌, ℕ, List, Some, length};
+ghost use Rattle.tool_files.specs.Told.{Look};
 ghost use Rattle.edit_writer.specs.declared.edits.Edit.{Edit};
-ghost use Rattle.refactor_app.specs.Words.{Request, Asks};
+ghost use Rattle.source_files.specs.Held.{AreHeld, StopsAt, Stop, Missing, Failed};
+ghost use Rattle.refactor_app.specs.Words.{Request, inputs, Asks, AskOther};
 ghost use Rattle.refactor_app.specs.Verdicts.{Refuses, Changes};
+ghost use Rattle.refactor_app.specs.Refusals.{most_files, AsksFew};
+ghost use Rattle.refactor_app.specs.Answers.{IsDone, IsRefused, IsUsage, IsMissing, IsReadFault, IsWriteFault};
+ghost use Rattle.refactor_app.specs.Outcomes.{Outcome, ComesTo, AreTreeless, Excludes};
 
 /// Words are one request at most.
 pub fn one_request()
@@ -23,4 +28,28 @@ pub fn one_change()
 /// What is refused is not changed.
 pub fn refused_or_changed()
     ensures { (q : Request) (text line made : List ℕ) (e : Edit) → Refuses q text line → Changes q text made e → ⊥ }
+{}
+
+/// Words, and any number of files whose contents are told, come to one outcome at most: the lowest rule on words, the first absent file, the line of
+/// a refusal, or a request with its change. Only the place of G1 is free: then both lines are G1's, of one file.
+pub fn one_outcome()
+    ensures { (words : List (List ℕ)) (look : Look) (a b : Outcome) → ComesTo words (Some look) a → ComesTo words (Some look) b
+        → (a ≡ b) ⊎ AreTreeless words (Some look) a b }
+{}
+
+/// So the answers of the call exclude each other. A write fault stands where the change would: of both the change is one, by `one_outcome`.
+pub fn answers_exclude()
+    ensures usage { Excludes IsUsage IsDone × Excludes IsUsage IsRefused × Excludes IsUsage IsMissing × Excludes IsUsage IsReadFault × Excludes IsUsage IsWriteFault }
+    ensures missing { Excludes IsMissing IsDone × Excludes IsMissing IsRefused × Excludes IsMissing IsWriteFault }
+    ensures refused { Excludes IsRefused IsDone × Excludes IsRefused IsWriteFault }
+{}
+
+/// A read fault hangs on the run, too: any file that is there may fail to be read, where the files before it are read. So it excludes what the words
+/// and the count of files bring, a stop at a file before it, and that it is absent itself, and nothing else.
+pub fn read_faults()
+    ensures words { (words : List (List ℕ)) (q r : Request) → AsksFew words q → (AskOther words → ⊥) × (Asks words r → length (inputs r) ≤ most_files) }
+    ensures missing { (look : Look) (names : List (List ℕ)) (j k : ℕ) → StopsAt (Some look) 0 names j Missing → (StopsAt (Some look) 0 names k Failed ↔ k < j) }
+    ensures large { (look : Look) (names : List (List ℕ)) (j k : ℕ) (stop : Stop) → stop ≢ Missing → stop ≢ Failed → StopsAt (Some look) 0 names j stop
+        → (StopsAt (Some look) 0 names k Failed ↔ k ≤ j) }
+    ensures read { (look : Look) (names texts : List (List ℕ)) (k : ℕ) → AreHeld (Some look) 0 names texts → (StopsAt (Some look) 0 names k Failed ↔ k < length names) }
 {}

@@ -1,7 +1,6 @@
 //! Small programs, from texts and their trees.
 
 ghost use Rattle.std.specs.Prelude.{◌≡◌, ◌≤◌, true, false, length, IfOk, IfSome, IfNone};
-ghost use Rattle.java_tree.specs.View.{unit_plain};
 ghost use Rattle.refactor_app.specs.Small.{IsProgramOf, IsNoProgram, HasUnit, HasTree};
 
 use check_decl::check_small;

@@ -1,4 +1,4 @@
-use Rattle.std.proofs.Common.{List, ℕ, length, Err, refl, sym, ◌∙◌, ap, subst}
+use Rattle.std.proofs.Common.{List, ℕ, Err, refl, subst}
 use Rattle.std.specs.String.{string_bytes}
 use Rattle.source_files.specs.Answers as files
 use Rattle.refactor_app.specs.Asked.{request_of}

@@ -1,4 +1,4 @@
-use Rattle.std.proofs.Common.{List, length, inl, inr, Err, refl, sym, ◌∙◌, ap, arith}
+use Rattle.std.proofs.Common.{length, inl, inr, refl, sym, ◌∙◌, ap, arith}
 use Rattle.std.specs.String.{string_bytes}
 use Rattle.refactor_app.specs.Asked.{request_of}
 use Rattle.refactor_app.specs.Stops.{TellsStop}

@@ -1,4 +1,4 @@
-use Rattle.std.proofs.Common.{length, refl, sym, ◌∙◌, ap, arith}
+use Rattle.std.proofs.Common.{refl, sym, ◌∙◌, arith}
 use Rattle.java_tree.specs.View.{unit_plain}
 use Rattle.refactor_app.specs.Asked.{request_of}
 use Rattle.refactor_app.specs.Course as way

@@ -1,7 +1,4 @@
-use Rattle.std.proofs.Common.{List, ℕ, ap, sym, subst}
 use Rattle.std.specs.String.{string_bytes}
-use Rattle.report_text.specs.Report.{missing, read_fault}
-use Rattle.refactor_app.specs.Stops.{EndsOrNot, IsNamed}
 use Rattle.refactor_app.proofs.Courses.{made, named_at}
 use Rattle.refactor_app.proofs.call.stop.Goals as goal
 

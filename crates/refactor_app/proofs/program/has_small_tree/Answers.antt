@@ -1,11 +1,3 @@
-use Rattle.std.proofs.Common.{List, sym, ◌∙◌, subst}
-use Rattle.java_tree.specs.declared.tree.Token.{Token}
-use Rattle.java_tree.specs.View.{unit_plain}
-use Rattle.java_tree.specs.Plain as t
-use Rattle.java_grammar.specs.declared.token.Tok.{Tok}
-use Rattle.java_grammar.specs.Sorts.{AreToks}
-use Rattle.unit_grammar.specs.Numbers as numbers
-use Rattle.unit_grammar.specs.Declarations.{SpellsUnit}
 use Rattle.refactor_app.proofs.Smalls.{no_tokens, small_tree, no_small_tree, is_table, spelled, tokens_are}
 use Rattle.refactor_app.proofs.program.has_small_tree.Goals as goal
 

@@ -1,0 +1,85 @@
+-- Words break one lowest rule, or ask for one thing.
+use Rattle.std.proofs.Common.{◌≡◌, ℕ, inl, inr, List, ◌∷◌, get_or, refl, sym, ◌∙◌, ap, subst}
+use Rattle.std.specs.Prelude.{if◌then◌else◌, ◌==◌}
+use Rattle.std.proofs.lemmas.Bool.{cases_order}
+use Rattle.command_words.specs.declared.table.Command.{Command}
+use Rattle.command_words.specs.declared.table.Command.TheVariants as c
+use Rattle.command_words.specs.Table.{word_of, parts_of}
+use Rattle.command_words.specs.Rules.{Meets, IsLowest}
+use Rattle.refactor_app.specs.Words.{Request, Asks, AskOther}
+
+-- the command whose word begins with this byte
+abbrev command_at : ℕ → Command
+command_at b =
+    if b == 97 then c.Allowed
+    else if b == 99 then c.Check
+    else if b == 101 then c.ExtractInterface
+    else if b == 103 then c.Generalize
+    else if b == 105 then c.InferTypeArguments
+    else if b == 112 then c.PullUp
+    else if b == 114 then c.Run
+    else c.Workload
+
+abbrev command_of : List ℕ → Command
+command_of w = command_at (get_or w 0 0)
+
+back : (x : Command) → command_of (word_of x) ≡ x
+back c.Check = refl
+back c.Run = refl
+back c.Allowed = refl
+back c.Generalize = refl
+back c.ExtractInterface = refl
+back c.PullUp = refl
+back c.InferTypeArguments = refl
+back c.Workload = refl
+
+one_command : (x y : Command) → word_of x ≡ word_of y → x ≡ y
+one_command x y e = sym (back x) ∙ ap command_of e ∙ back y
+
+one_split : (x y : Command) (r s : List (List ℕ)) → word_of x ∷ r ≡ word_of y ∷ s → (x ≡ y) × (r ≡ s)
+one_split x y r s e =
+    let word : word_of x ≡ word_of y = cc in
+    let rest : r ≡ s = cc in
+    (one_command x y word, rest)
+
+module _ (words : List (List ℕ)) (x y : Command) (r s : List (List ℕ)) (e : words ≡ word_of x ∷ r) (f : words ≡ word_of y ∷ s) where
+  same_met : (n : ℕ) → Meets x (parts_of r) n → Meets y (parts_of s) n
+  same_met n h =
+      let same = one_split x y r s (sym e ∙ f) in
+      subst (λ s. Meets y (parts_of s) n) same.1 (subst (λ x. Meets x (parts_of r) n) same.0 h)
+
+-- the words break no rule
+record Meet (words : List (List ℕ)) : Type 0 where
+  command : Command
+  rest : List (List ℕ)
+  are : words ≡ word_of command ∷ rest
+  meets : (n : ℕ) → Meets command (parts_of rest) n
+
+asked : (words : List (List ℕ)) (q : Request) → Asks words q → Meet words
+asked words q h = record { command = c.Generalize; rest = h.rest; are = h.are; meets = h.meets }
+
+asked_other : (words : List (List ℕ)) → AskOther words → Meet words
+asked_other words h = record { command = h.command; rest = h.rest; are = h.are; meets = h.meets }
+
+broken_or_met : (words : List (List ℕ)) (n : ℕ) → IsLowest words n → Meet words → ⊥
+broken_or_met words n (inl (is, none)) m = none (m.command, m.rest, m.are)
+broken_or_met words n (inr (x, r, e, broken, below)) m = broken (same_met words m.command x m.rest r m.are e n (m.meets n))
+
+pub lowest_or_asks : (words : List (List ℕ)) (n : ℕ) (q : Request) → IsLowest words n → Asks words q → ⊥
+lowest_or_asks words n q low h = broken_or_met words n low (asked words q h)
+
+pub lowest_or_other : (words : List (List ℕ)) (n : ℕ) → IsLowest words n → AskOther words → ⊥
+lowest_or_other words n low h = broken_or_met words n low (asked_other words h)
+
+pub other_or_asks : (words : List (List ℕ)) (q : Request) → AskOther words → Asks words q → ⊥
+other_or_asks words q other h = other.other (one_split other.command c.Generalize other.rest h.rest (sym other.are ∙ h.are)).0
+
+pub one_lowest : (words : List (List ℕ)) (m n : ℕ) → IsLowest words m → IsLowest words n → m ≡ n
+one_lowest words m n (inl (is, none)) (inl (so, none')) = is ∙ sym so
+one_lowest words m n (inl (is, none)) (inr (x, r, e, broken, below)) = absurd (none (x, r, e))
+one_lowest words m n (inr (x, r, e, broken, below)) (inl (is, none)) = absurd (none (x, r, e))
+one_lowest words m n (inr (x, r, e, broken, below)) (inr (y, s, f, broken', below')) = elim (cases_order m n) [
+  | inl same ↦ same
+  | inr (inl less) ↦ absurd (broken (same_met words y x s r f e m (below' m less)))
+  | inr (inr more) ↦ absurd (broken' (same_met words x y r s e f n (below n more)))
+]

@@ -1,0 +1,11 @@
+use Rattle.refactor_app.proofs.Excluding.{usage, missing, refused}
+use Rattle.refactor_app.proofs.laws.answers_exclude.Goals as goal
+
+pub returns-clause-usage : goal.returns-clause-usage
+returns-clause-usage c = usage
+
+pub returns-clause-missing : goal.returns-clause-missing
+returns-clause-missing c = missing
+
+pub returns-clause-refused : goal.returns-clause-refused
+returns-clause-refused c = refused
