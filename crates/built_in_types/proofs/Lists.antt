@@ -1,5 +1,5 @@
 -- Lists that are made from the rows of a table, one by one.
-use Rattle.std.proofs.Common.{◌≡◌, ℕ, ◌+◌, ◌<◌, ◌==◌, Bool, true, false, if◌then◌else◌, List, [], ◌∷◌, ◌++◌, map, drop, get_or, length, slice_get, zero, suc, Option, Some, None, inl, inr, subst, refl, sym, ap, ◌∙◌, arith}
+use Rattle.std.proofs.Common.{◌≡◌, ℕ, ◌+◌, ◌<◌, ◌==◌, true, false, if◌then◌else◌, List, [], ◌∷◌, ◌++◌, map, drop, get_or, length, slice_get, zero, suc, Option, Some, None, inl, inr, subst, refl, sym, ap, ◌∙◌, arith}
 use Rattle.std.proofs.lemmas.Bool.{cases_lt}
 use Rattle.std.proofs.lemmas.Bool.Decides.{nat_tests}
 use Rattle.std.proofs.lemmas.List.{drop_more, append_assoc}
@@ -62,9 +62,11 @@ pub word_more : (ts old new : List (List ℕ)) (xs ys : List Name) (x : Name) (t
     → ((k : ℕ) (u : List ℕ) → k < length xs → slice_get ts k ≡ Some u → (n : Name) × (slice_get xs k ≡ Some n) × (slice_get old n.0 ≡ Some u))
     → (k : ℕ) (u : List ℕ) → k < length xs + 1 → slice_get ts k ≡ Some u → (n : Name) × (slice_get ys k ≡ Some n) × (slice_get new n.0 ≡ Some u)
 word_more ts old new xs ys x t front push at given before k u low e = elim (cases_lt k (length xs)) [
-    inl h ↦ let b = before k u h e in (b.0, subst (λ l. slice_get l k ≡ Some b.0) (sym push) (stays xs (x ∷ []) k b.0 b.1), front b.0.0 u b.2)
-    | inr h ↦
-      let same : length xs ≡ k = omega (arith, h, low) in
-      (x, subst (λ l. slice_get l k ≡ Some x) (sym push) (subst (λ j. slice_get (xs ++ x ∷ []) j ≡ Some x) same (at_seam xs x)),
-      given ∙ sym (subst (λ j. slice_get ts j ≡ Some t) same at) ∙ e)
-  ]
+  | inl h ↦ let b = before k u h e in (b.0, subst (λ l. slice_get l k ≡ Some b.0) (sym push) (stays xs (x ∷ []) k b.0 b.1), front b.0.0 u b.2)
+  | inr h ↦
+      let same : length xs ≡ k = omega (arith, h, low) in (
+        x,
+        subst (λ l. slice_get l k ≡ Some x) (sym push) (subst (λ j. slice_get (xs ++ x ∷ []) j ≡ Some x) same (at_seam xs x)),
+        given ∙ sym (subst (λ j. slice_get ts j ≡ Some t) same at) ∙ e,
+      )
+]

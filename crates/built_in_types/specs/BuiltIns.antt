@@ -1,5 +1,5 @@
 -- The built-in types with their members. A type's number is also that of its name (java_tree's `built_in_names`).
-use Rattle.std.specs.Prelude.{◌≡◌, ℕ, ◌+◌, true, false, if◌then◌else◌, ◌==◌, ◌||◌, is_none, List, [], ◌∷◌, ◌++◌, map, flat_map, Option, Some, None, option_to_list, slice_get, unwrap_or, codes}
+use Rattle.std.specs.Prelude.{◌≡◌, ℕ, ◌+◌, false, if◌then◌else◌, ◌==◌, ◌||◌, is_none, List, [], ◌∷◌, ◌++◌, map, flat_map, Option, Some, None, option_to_list, slice_get, unwrap_or, codes}
 use Rattle.std.specs.Option.{option_map}
 use Rattle.java_tree.specs.declared.tree.Name.{Name}
 use Rattle.java_tree.specs.declared.tree.Mod.{Mod}

@@ -75,11 +75,7 @@ pub struct Words {
 }
 
 // The number of each text, in order.
-fn intern_all(
-    alloc: Global,
-    names: &mut Names,
-    texts: &[&str],
-) -> Result<Items<Name>, NoMemory>
+fn intern_all(alloc: Global, names: &mut Names, texts: &[&str]) -> Result<Items<Name>, NoMemory>
     requires { length names.old + length texts.now < 2 ^ 32 }
     ensures numbers { IfOk result (λ ns. AreNumbered names.new (map (λ t. t.now) texts.now) ns) }
     ensures kept { IsFront names.old names.new }
