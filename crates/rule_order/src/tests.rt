@@ -1,0 +1,18 @@
+use crate::{Breach, earlier};
+use std::test::Fail;
+
+fn at(node: u32, rule: u8) -> Option<Breach> {
+    Some(Breach { node, rule })
+}
+
+#[test]
+fn the_first_node_and_there_the_lowest_number(rt: HostRuntime) -> Result<(), Fail> {
+    assert_eq!(rt; earlier(at(7, 1), at(5, 23)), at(5, 23));
+    assert_eq!(rt; earlier(at(5, 23), at(7, 1)), at(5, 23));
+    assert_eq!(rt; earlier(at(5, 12), at(5, 9)), at(5, 9));
+    assert_eq!(rt; earlier(at(5, 9), at(5, 12)), at(5, 9));
+    assert_eq!(rt; earlier(at(5, 9), None), at(5, 9));
+    assert_eq!(rt; earlier(None, at(5, 9)), at(5, 9));
+    assert_eq!(rt; earlier(None, None), None);
+    Ok(())
+}
