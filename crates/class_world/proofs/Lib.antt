@@ -3,3 +3,8 @@ pub mod Tables
 pub mod Chosen
 pub mod Flags
 pub mod Lookups
+pub mod Forms
+pub mod Substs
+pub mod Orders
+pub mod Lifts
+pub mod Weights

@@ -6,8 +6,10 @@ mod members;
 mod order;
 #[cfg(test)]
 mod tests;
+mod types;
 pub mod world;
 
 pub use members::{MethodTable, find_method, member_names};
-pub use order::{is_below, is_sub, is_sub_class, superclass};
-pub use world::{FieldInfo, JavaType, MethodInfo, TypeInfo, Walk, World};
+pub use order::{is_below, is_sub_class, superclass};
+pub use types::{erase, is_put, is_same};
+pub use world::{Above, FieldInfo, JavaType, MethodInfo, TypeInfo, Walk, World};
