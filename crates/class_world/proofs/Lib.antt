@@ -8,3 +8,4 @@ pub mod Substs
 pub mod Orders
 pub mod Lifts
 pub mod Weights
+pub mod Decides

@@ -126,12 +126,16 @@ module _ (w : World) (sound : IsSound w) where
   -- the listed types with the arguments put are the parameterized types above the class type
   put_bases : (n c : ℕ) (xs args bases : List JavaType) (s : JavaType) → AreReferences args → IsTypeOver w n (ty.Class c xs)
       → substitute args (ty.Class c xs) ≡ s → AreBases w (ty.Class c xs) bases → ArePutBases w args s bases
-  put_bases n c xs args bases s refs over image list u is = (
+  put_bases n c xs args bases s refs over image list u = (
     λ h.
         let below = (list h.1).0 (h.0, h.2) in
-        both (sym image) (sym h.3) (put_below args refs (ty.Class c xs) h.1 below.1),
+        let g = below.0.0 in
+        let ys = below.0.1.0 in
+        let shape : u ≡ ty.Class g (map (substitute args) ys) = sym h.3 ∙ ap (substitute args) below.0.1.1 ∙ put_class args g ys in
+        ((g, (map (substitute args) ys, shape, λ none. below.0.1.2 (none_left (substitute args) ys none))), both (sym image) (sym h.3) (put_below args refs (ty.Class c xs) h.1 below.1)),
     λ h.
-        let low = lifted n args s u h c xs image over in
+        let is = h.0 in
+        let low = lifted n args s u h.1 c xs image over in
         let some : low.1 ≡ [] → ⊥ = λ none.
         let flat : ty.Class is.0 is.1.0 ≡ ty.Class low.0 [] = sym is.1.1 ∙ sym low.2 ∙ ap (λ ys. substitute args (ty.Class low.0 ys)) none ∙ put_class args low.0 [] in
         is.1.2 (same_class is.0 low.0 is.1.0 [] flat).1 in

@@ -80,6 +80,50 @@ object_over w n c info at =
     let top = sub.there_is w.types 0 (omega (arith, lt)) in
     bare_over w n 0 top.0 top.1
 
+-- the primitive types above one
+abbrev pub widens : Primitive → Primitive → Bool
+widens prim.Char prim.Char = true
+widens prim.Char prim.Int = true
+widens prim.Char prim.Long = true
+widens prim.Int prim.Int = true
+widens prim.Int prim.Long = true
+widens prim.Long prim.Long = true
+widens prim.Boolean prim.Boolean = true
+widens _ _ = false
+
+widens_same : (p : Primitive) → widens p p ≡ true
+widens_same prim.Char = refl
+widens_same prim.Int = refl
+widens_same prim.Long = refl
+widens_same prim.Boolean = refl
+
+widens_on : (p q r : Primitive) → widens p q ≡ true → widens q r ≡ true → widens p r ≡ true
+widens_on prim.Char prim.Char r h k = k
+widens_on prim.Char prim.Int prim.Int h k = refl
+widens_on prim.Char prim.Int prim.Long h k = refl
+widens_on prim.Char prim.Int prim.Char h k = absurd (cc k)
+widens_on prim.Char prim.Int prim.Boolean h k = absurd (cc k)
+widens_on prim.Char prim.Long prim.Long h k = refl
+widens_on prim.Char prim.Long prim.Int h k = absurd (cc k)
+widens_on prim.Char prim.Long prim.Char h k = absurd (cc k)
+widens_on prim.Char prim.Long prim.Boolean h k = absurd (cc k)
+widens_on prim.Char prim.Boolean r h k = absurd (cc h)
+widens_on prim.Int prim.Int r h k = k
+widens_on prim.Int prim.Long prim.Long h k = refl
+widens_on prim.Int prim.Long prim.Int h k = absurd (cc k)
+widens_on prim.Int prim.Long prim.Char h k = absurd (cc k)
+widens_on prim.Int prim.Long prim.Boolean h k = absurd (cc k)
+widens_on prim.Int prim.Char r h k = absurd (cc h)
+widens_on prim.Int prim.Boolean r h k = absurd (cc h)
+widens_on prim.Long prim.Long r h k = k
+widens_on prim.Long prim.Int r h k = absurd (cc h)
+widens_on prim.Long prim.Char r h k = absurd (cc h)
+widens_on prim.Long prim.Boolean r h k = absurd (cc h)
+widens_on prim.Boolean prim.Boolean r h k = k
+widens_on prim.Boolean prim.Int r h k = absurd (cc h)
+widens_on prim.Boolean prim.Char r h k = absurd (cc h)
+widens_on prim.Boolean prim.Long r h k = absurd (cc h)
+
 module _ (w : World) (sound : IsSound w) where
   -- a declared supertype is a class type over the same variables
   pub declared_above : (n c : ℕ) (xs : List JavaType) (t : JavaType) → IsTypeOver w n (ty.Class c xs) → IsDeclaredSuper w c xs t
@@ -197,50 +241,6 @@ module _ (w : World) (sound : IsSound w) where
   null_above s t (arrays {s = x} r r' h) e = absurd (cc (array_kind x, null_kind, e))
   null_above s t char_int e = absurd (cc (primitive_kind prim.Char, null_kind, e))
   null_above s t int_long e = absurd (cc (primitive_kind prim.Int, null_kind, e))
-
-  -- the primitive types above one
-  abbrev pub widens : Primitive → Primitive → Bool
-  widens prim.Char prim.Char = true
-  widens prim.Char prim.Int = true
-  widens prim.Char prim.Long = true
-  widens prim.Int prim.Int = true
-  widens prim.Int prim.Long = true
-  widens prim.Long prim.Long = true
-  widens prim.Boolean prim.Boolean = true
-  widens _ _ = false
-
-  widens_same : (p : Primitive) → widens p p ≡ true
-  widens_same prim.Char = refl
-  widens_same prim.Int = refl
-  widens_same prim.Long = refl
-  widens_same prim.Boolean = refl
-
-  widens_on : (p q r : Primitive) → widens p q ≡ true → widens q r ≡ true → widens p r ≡ true
-  widens_on prim.Char prim.Char r h k = k
-  widens_on prim.Char prim.Int prim.Int h k = refl
-  widens_on prim.Char prim.Int prim.Long h k = refl
-  widens_on prim.Char prim.Int prim.Char h k = absurd (cc k)
-  widens_on prim.Char prim.Int prim.Boolean h k = absurd (cc k)
-  widens_on prim.Char prim.Long prim.Long h k = refl
-  widens_on prim.Char prim.Long prim.Int h k = absurd (cc k)
-  widens_on prim.Char prim.Long prim.Char h k = absurd (cc k)
-  widens_on prim.Char prim.Long prim.Boolean h k = absurd (cc k)
-  widens_on prim.Char prim.Boolean r h k = absurd (cc h)
-  widens_on prim.Int prim.Int r h k = k
-  widens_on prim.Int prim.Long prim.Long h k = refl
-  widens_on prim.Int prim.Long prim.Int h k = absurd (cc k)
-  widens_on prim.Int prim.Long prim.Char h k = absurd (cc k)
-  widens_on prim.Int prim.Long prim.Boolean h k = absurd (cc k)
-  widens_on prim.Int prim.Char r h k = absurd (cc h)
-  widens_on prim.Int prim.Boolean r h k = absurd (cc h)
-  widens_on prim.Long prim.Long r h k = k
-  widens_on prim.Long prim.Int r h k = absurd (cc h)
-  widens_on prim.Long prim.Char r h k = absurd (cc h)
-  widens_on prim.Long prim.Boolean r h k = absurd (cc h)
-  widens_on prim.Boolean prim.Boolean r h k = k
-  widens_on prim.Boolean prim.Int r h k = absurd (cc h)
-  widens_on prim.Boolean prim.Char r h k = absurd (cc h)
-  widens_on prim.Boolean prim.Long r h k = absurd (cc h)
 
   pub primitive_above : (s t : JavaType) → Subtype w s t → (p : Primitive) → s ≡ ty.Prim p → (q : Primitive) × (t ≡ ty.Prim q) × (widens p q ≡ true)
   primitive_above s t same p e = (p, e, widens_same p)

@@ -10,6 +10,13 @@ use Rattle.class_world.specs.Subclasses.{IsDirectSuper}
 use Rattle.class_world.specs.Types.{substitute, IsTypeOver, with_own}
 use Rattle.class_world.specs.Subtypes.{Subtype, Parameterizes}
 
+-- a type of the world, whatever number of variables is in scope
+abbrev pub IsOfWorld : World → JavaType → Type 0
+IsOfWorld w t = (n : ℕ) × IsTypeOver w n t
+
+abbrev pub IsKnown : World → ℕ → Type 0
+IsKnown w c = (info : TypeInfo) × (slice_get w.types c ≡ Some info)
+
 -- the bit g is set, of 64 to a word from the lowest on
 abbrev pub IsSet : List ℕ → ℕ → Type 0
 IsSet words g = (word : ℕ) × (slice_get words (g / 64) ≡ Some word) × (bit_at word (g % 64) ≡ 1)
@@ -20,7 +27,10 @@ AreBases w s bases = (b : JavaType) → ((k : ℕ) × (slice_get bases k ≡ Som
 
 -- the listed types with the arguments put for their variables are the parameterized types above s
 abbrev pub ArePutBases : World → List JavaType → JavaType → List JavaType → Type 0
-ArePutBases w args s bases = (u : JavaType) → ((g : ℕ) × Parameterizes g u) → ((k : ℕ) × (b : JavaType) × (slice_get bases k ≡ Some b) × (substitute args b ≡ u)) ↔ Subtype w s u
+ArePutBases w args s bases = (u : JavaType) → ((k : ℕ) × (b : JavaType) × (slice_get bases k ≡ Some b) × (substitute args b ≡ u)) ↔ (((g : ℕ) × Parameterizes g u) × Subtype w s u)
+
+abbrev pub AreClasses : List JavaType → Type 0
+AreClasses ts = (k : ℕ) (t : JavaType) → slice_get ts k ≡ Some t → (g : ℕ) × (args : List JavaType) × (t ≡ ty.Class g args)
 
 -- The table's row of a class of n parameters: the classes whose types without arguments are above it, the parameterized types above it with its own variables, and
 -- those above its raw type, where it has one.

@@ -4,6 +4,7 @@
 pub mod laws;
 mod members;
 mod order;
+mod subtypes;
 #[cfg(test)]
 mod tests;
 mod types;
@@ -11,5 +12,6 @@ pub mod world;
 
 pub use members::{MethodTable, find_method, member_names};
 pub use order::{is_below, is_sub_class, superclass};
+pub use subtypes::{fits, is_sub, is_unchecked, super_as};
 pub use types::{erase, is_put, is_same};
 pub use world::{Above, FieldInfo, JavaType, MethodInfo, TypeInfo, Walk, World};
