@@ -74,18 +74,18 @@ none_set words g none h = absurd (cc (none, h.1))
 module _ (w : World) (sound : IsSound w) where
   pub widens_told : (r : Bool) (p q : Primitive) → r ≡ widens p q → IsTrue r ↔ Subtype w (ty.Prim p) (ty.Prim q)
   widens_told r p q e = (
-    λ h. orders.primitive_below w sound p q (sym e ∙ h),
+    λ h. orders.primitive_below w sound.declared p q (sym e ∙ h),
     λ h.
-        let up = orders.primitive_above w sound (ty.Prim p) (ty.Prim q) h p refl in
+        let up = orders.primitive_above w sound.declared (ty.Prim p) (ty.Prim q) h p refl in
         e ∙ subst (λ z. widens p z ≡ true) (sym (same_primitive q up.0 up.1)) up.2,
   )
 
   pub above_primitive_not : (s t : JavaType) (p : Primitive) → s ≡ ty.Prim p → ((q : Primitive) → t ≡ ty.Prim q → ⊥) → Subtype w s t → ⊥
-  above_primitive_not s t p e none h = let up = orders.primitive_above w sound s t h p e in none up.0 up.1
+  above_primitive_not s t p e none h = let up = orders.primitive_above w sound.declared s t h p e in none up.0 up.1
 
   pub above_null_not : (s t : JavaType) (q : Primitive) → s ≡ ty.Null → t ≡ ty.Prim q → Subtype w s t → ⊥
   above_null_not s t q e i h =
-      elim (orders.null_above w sound s t h e) [
+      elim (orders.null_above w sound.declared s t h e) [
         | inl k ↦ absurd (cc (primitive_kind q, null_kind, sym i ∙ k))
         | inr r ↦ primitive_refers_not t q r i
       ]
@@ -103,13 +103,13 @@ module _ (w : World) (sound : IsSound w) where
   pub above_variable : (r : Bool) (s t : JavaType) (k : ℕ) → s ≡ ty.Var k → (s ≡ t → ⊥) → IsTrue r ↔ (t ≡ object_type) → IsTrue r ↔ Subtype w s t
   above_variable r s t k e other is = (
     λ h. subst (Subtype w s) (sym (is.0 h)) (object (subst IsReference (sym e) (of_variable k))),
-    λ h. elim (orders.variable_above w sound s t h k e) [ inl i ↦ absurd (other (sym i)) | inr top ↦ is.1 top ],
+    λ h. elim (orders.variable_above w sound.declared s t h k e) [ inl i ↦ absurd (other (sym i)) | inr top ↦ is.1 top ],
   )
 
   pub between_arrays : (r : Bool) (s t x y : JavaType) → s ≡ ty.Array x → t ≡ ty.Array y → IsReference x → IsReference y → IsTrue r ↔ Subtype w x y → IsTrue r ↔ Subtype w s t
   between_arrays r s t x y e i rx ry is = (
     λ h. subst (λ s. Subtype w s t) (sym e) (subst (Subtype w (ty.Array x)) (sym i) (arrays rx ry (is.0 h))),
-    λ h. elim (orders.array_above w sound s t h x e) [
+    λ h. elim (orders.array_above w sound.declared s t h x e) [
       | inl k ↦ is.1 (subst (Subtype w x) (same_element x y (sym k ∙ i)) same)
       | inr (inl top) ↦ absurd (cc (class_kind 0 [], array_kind y, sym top ∙ i))
       | inr (inr k) ↦ is.1 (subst (Subtype w x) (same_element k.0 y (sym k.1 ∙ i)) k.4)
@@ -119,7 +119,7 @@ module _ (w : World) (sound : IsSound w) where
   pub between_other_arrays : (r : Bool) (s t x y : JavaType) → s ≡ ty.Array x → t ≡ ty.Array y → (IsReference x × IsReference y → ⊥) → IsTrue r ↔ (x ≡ y) → IsTrue r ↔ Subtype w s t
   between_other_arrays r s t x y e i refs is = (
     λ h. subst (Subtype w s) (e ∙ ap ty.Array (is.0 h) ∙ sym i) same,
-    λ h. elim (orders.array_above w sound s t h x e) [
+    λ h. elim (orders.array_above w sound.declared s t h x e) [
       | inl k ↦ is.1 (same_element x y (sym k ∙ i))
       | inr (inl top) ↦ absurd (cc (class_kind 0 [], array_kind y, sym top ∙ i))
       | inr (inr k) ↦ absurd (refs (k.2, subst IsReference (same_element k.0 y (sym k.1 ∙ i)) k.3))
@@ -129,7 +129,7 @@ module _ (w : World) (sound : IsSound w) where
   pub above_array : (r : Bool) (s t x : JavaType) → s ≡ ty.Array x → ((y : JavaType) → t ≡ ty.Array y → ⊥) → IsTrue r ↔ (t ≡ object_type) → IsTrue r ↔ Subtype w s t
   above_array r s t x e none is = (
     λ h. subst (Subtype w s) (sym (is.0 h)) (object (subst IsReference (sym e) (of_array x))),
-    λ h. elim (orders.array_above w sound s t h x e) [
+    λ h. elim (orders.array_above w sound.declared s t h x e) [
       | inl k ↦ absurd (none x k)
       | inr (inl top) ↦ is.1 top
       | inr (inr k) ↦ absurd (none k.0 k.1)
@@ -138,7 +138,7 @@ module _ (w : World) (sound : IsSound w) where
 
   pub above_class_not : (c : ℕ) (args : List JavaType) (t : JavaType) → IsOfWorld w (ty.Class c args) → ((g : ℕ) (ys : List JavaType) → t ≡ ty.Class g ys → ⊥)
       → Subtype w (ty.Class c args) t → ⊥
-  above_class_not c args t over none h = let up = orders.class_above w sound over.0 (ty.Class c args) t h c args refl over.1 in none up.0.0 up.0.1 up.0.2
+  above_class_not c args t over none h = let up = orders.class_above w sound.declared over.0 (ty.Class c args) t h c args refl over.1 in none up.0.0 up.0.1 up.0.2
 
   -- the row of a class
   row_of : (c : ℕ) (info : TypeInfo) (row : Above) → slice_get w.types c ≡ Some info → slice_get w.above c ≡ Some row → IsRow w c info.params row
@@ -152,8 +152,8 @@ module _ (w : World) (sound : IsSound w) where
   class_above_told r c g args row words known there same_words is =
       let types = (row_of c known.0 row known.1 there).types g in
       let own = variables 0 known.0.params in (
-        λ h. lifts.bare_alike w sound c g own args (types.0 (subst (λ words. IsSet words g) same_words (is.0 h))),
-        λ h. is.1 (subst (λ words. IsSet words g) (sym same_words) (types.1 (lifts.bare_alike w sound c g args own h))),
+        λ h. lifts.bare_alike w sound.declared c g own args (types.0 (subst (λ words. IsSet words g) same_words (is.0 h))),
+        λ h. is.1 (subst (λ words. IsSet words g) (sym same_words) (types.1 (lifts.bare_alike w sound.declared c g args own h))),
       )
 
   pub none_above : (c : ℕ) → IsKnown w c → slice_get w.above c ≡ None → ⊥
@@ -165,14 +165,14 @@ module _ (w : World) (sound : IsSound w) where
       let parts = class_parts w over.0 (ty.Class c args) c args over.1 refl in
       let bare = is parts.0 parts.1 in
       subst (λ args. ArePutBases w args (ty.Class c args) row.raw_bases) (sym bare.0)
-      (lifts.raw_bases w sound c parts.0 row.raw_bases parts.1 ((row_of c parts.0 row parts.1 there).raw_bases bare.1))
+      (lifts.raw_bases w sound.declared c parts.0 row.raw_bases parts.1 ((row_of c parts.0 row parts.1 there).raw_bases bare.1))
 
   pub own_put : (c : ℕ) (args : List JavaType) (row : Above) → IsOfWorld w (ty.Class c args) → slice_get w.above c ≡ Some row
       → ((info : TypeInfo) → slice_get w.types c ≡ Some info → (args ≡ []) × (0 < info.params) → ⊥) → ArePutBases w args (ty.Class c args) row.bases
   own_put c args row over there not_raw =
       let parts = class_parts w over.0 (ty.Class c args) c args over.1 refl in
       let len : length args ≡ parts.0.params = elim parts.2 [ inl none ↦ all none (λ lt. not_raw parts.0 parts.1 (none, lt)) | inr len ↦ len ] in
-      lifts.own_bases w sound over.0 c parts.0 args row.bases parts.1 len over.1 (row_of c parts.0 row parts.1 there).bases
+      lifts.own_bases w sound.declared over.0 c parts.0 args row.bases parts.1 len over.1 (row_of c parts.0 row parts.1 there).bases
     where
       all : {n : ℕ} → args ≡ [] → (0 < n → ⊥) → length args ≡ n
       all {n = zero} none some = ap length none
@@ -201,20 +201,6 @@ module _ (w : World) (sound : IsSound w) where
       let same_g = (same_class is.0.0 g is.0.1.0 _ (sym is.0.1.1 ∙ ap (substitute args) shape.1 ∙ put_class args g shape.0)).0 in
       (subst (λ g. Parameterizes g (substitute args b)) same_g is.0.1, is.1)
 
-  pub base_not_yet : (g i : ℕ) (bases : List JavaType) (x : JavaType) → ((k : ℕ) (b : JavaType) → k < i → slice_get bases k ≡ Some b → (args : List JavaType) → b ≡ ty.Class g args → ⊥)
-      → i < length bases → x ≡ get_or bases i x → (((xs : List JavaType) × (x ≡ ty.Class g xs)) → ⊥)
-      → (k : ℕ) (b : JavaType) → k < i + 1 → slice_get bases k ≡ Some b → (args : List JavaType) → b ≡ ty.Class g args → ⊥
-  base_not_yet g i bases x before lt at not_x k b lt' at' args e = elim (below_or_last k i lt') [
-    | inl low ↦ before k b low at' args e
-    | inr last ↦
-        let there : slice_get bases k ≡ Some x = ap (slice_get bases) last ∙ slice_get_read bases (length bases) i x refl lt at in
-        let is : b ≡ x = cc (there, at') in
-        not_x (args, sym is ∙ e)
-  ]
-    where
-      below_or_last : (k i : ℕ) → k < i + 1 → (k < i) ⊎ (k ≡ i)
-      below_or_last k i h = grind (arith, h)
-
   pub base_nowhere : (c g i : ℕ) (args bases : List JavaType) → ArePutBases w args (ty.Class c args) bases → AreClasses bases → length bases ≤ i
       → ((k : ℕ) (b : JavaType) → k < i → slice_get bases k ≡ Some b → (args : List JavaType) → b ≡ ty.Class g args → ⊥)
       → (u : JavaType) → Parameterizes g u → Subtype w (ty.Class c args) u → ⊥
@@ -231,13 +217,13 @@ module _ (w : World) (sound : IsSound w) where
   UnderObject s = (g : ℕ) (ys : List JavaType) → Subtype w s (ty.Class g ys) → ty.Class g ys ≡ object_type
 
   pub variable_under : (s : JavaType) (k : ℕ) → s ≡ ty.Var k → UnderObject s
-  variable_under s k e g ys h = elim (orders.variable_above w sound s (ty.Class g ys) h k e) [
+  variable_under s k e g ys h = elim (orders.variable_above w sound.declared s (ty.Class g ys) h k e) [
     | inl i ↦ absurd (cc (class_kind g ys, variable_kind k, i ∙ e))
     | inr top ↦ top
   ]
 
   pub array_under : (s x : JavaType) → s ≡ ty.Array x → UnderObject s
-  array_under s x e g ys h = elim (orders.array_above w sound s (ty.Class g ys) h x e) [
+  array_under s x e g ys h = elim (orders.array_above w sound.declared s (ty.Class g ys) h x e) [
     | inl i ↦ absurd (cc (class_kind g ys, array_kind x, i))
     | inr (inl top) ↦ top
     | inr (inr k) ↦ absurd (cc (class_kind g ys, array_kind k.0, k.1))
@@ -261,7 +247,7 @@ module _ (w : World) (sound : IsSound w) where
 
   -- no class is above a primitive type
   pub primitive_under : (s : JavaType) (p : Primitive) (g : ℕ) (ys : List JavaType) → s ≡ ty.Prim p → Subtype w s (ty.Class g ys) → ⊥
-  primitive_under s p g ys e h = let up = orders.primitive_above w sound s (ty.Class g ys) h p e in cc (class_kind g ys, primitive_kind up.0, up.1)
+  primitive_under s p g ys e h = let up = orders.primitive_above w sound.declared s (ty.Class g ys) h p e in cc (class_kind g ys, primitive_kind up.0, up.1)
 
   -- every parameterization is above the null type
   pub null_parameterized : (s : JavaType) (g : ℕ) → s ≡ ty.Null → ((u : JavaType) → Parameterizes g u → Subtype w s u → ⊥) → ⊥
@@ -280,5 +266,5 @@ module _ (w : World) (sound : IsSound w) where
   super_parameterized c g args t u v over e same_u is h = (
     subst (λ t. Subtype w t u) (sym e) (subst (Subtype w (ty.Class c args)) (sym same_u) h),
     (is.0, same_u ∙ is.1),
-    λ z p k. lifts.one_base w sound over.0 c g args z v (subst (IsTypeOver w over.0) e over.1) p is (subst (λ t. Subtype w t z) e k) h ∙ sym same_u,
+    λ z p k. lifts.one_base w sound.declared sound.single over.0 c g args z v (subst (IsTypeOver w over.0) e over.1) p is (subst (λ t. Subtype w t z) e k) h ∙ sym same_u,
   )

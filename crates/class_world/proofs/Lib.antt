@@ -9,3 +9,6 @@ pub mod Orders
 pub mod Lifts
 pub mod Weights
 pub mod Decides
+pub mod Steps
+pub mod Words
+pub mod Merges

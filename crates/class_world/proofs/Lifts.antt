@@ -8,12 +8,12 @@ use Rattle.class_world.specs.declared.world.JavaType.{JavaType}
 use Rattle.class_world.specs.declared.world.JavaType.TheVariants as ty
 use Rattle.class_world.specs.Types.{object_type, substitute, erased, variables, with_own, IsReference, of_class, of_array, AreReferences, IsTypeOver}
 use Rattle.class_world.specs.Subtypes.{Subtype, same, through, declared, object, raw, null, arrays, char_int, int_long, IsDeclaredSuper, IsSeenAs, Parameterizes}
-use Rattle.class_world.specs.Sound.{IsSound, IsSuper, AreBases, ArePutBases}
+use Rattle.class_world.specs.Sound.{AreSupers, IsSingle, IsSuper, AreBases, ArePutBases}
 use Rattle.class_world.proofs.Forms.{kind, primitive_kind, null_kind, class_kind, array_kind, same_class}
 use Rattle.class_world.proofs.Substs.{put_primitive, put_null, put_class, put_array, put_twice, put_own, put_refers, erased_class, length_map, none_left, variables_length}
 use Rattle.class_world.proofs.Orders.{class_parts, bare_over, object_over, own_over, declared_above}
 
-module _ (w : World) (sound : IsSound w) where
+module _ (w : World) (sound : AreSupers w) where
   both : {s s' t t' : JavaType} → s' ≡ s → t' ≡ t → Subtype w s t → Subtype w s' t'
   both {s = s} {s' = s'} {t = t} {t' = t'} e f h = subst (λ s. Subtype w s t') (sym e) (subst (Subtype w s) (sym f) h)
 
@@ -82,7 +82,7 @@ module _ (w : World) (sound : IsSound w) where
   lifted n args s t int_long c xs e over = absurd (cc (class_kind c (map (substitute args) xs), primitive_kind prim.Int, sym (put_class args c xs) ∙ e))
 
   -- the erasure of a declared supertype is above the class without arguments
-  bare_declared : (c : ℕ) (info : TypeInfo) (d : JavaType) (k : ℕ) → slice_get w.types c ≡ Some info → slice_get info.supers k ≡ Some d
+  pub bare_declared : (c : ℕ) (info : TypeInfo) (d : JavaType) (k : ℕ) → slice_get w.types c ≡ Some info → slice_get info.supers k ≡ Some d
       → (g : ℕ) (ys : List JavaType) → d ≡ ty.Class g ys → Subtype w (ty.Class c []) (ty.Class g [])
   bare_declared c info d k at super g ys shape = go info.params refl
     where
@@ -156,14 +156,14 @@ module _ (w : World) (sound : IsSound w) where
   raw_bases c info bases at list = put_bases 0 c [] [] bases (ty.Class c []) (λ k a e. absurd (cc e)) (bare_over w 0 c info at) (put_class [] c []) list
 
   -- no class type is below two parameterizations of one class
-  pub one_base : (k c g : ℕ) (args : List JavaType) (t u : JavaType) → IsTypeOver w k (ty.Class c args) → Parameterizes g t → Parameterizes g u
+  pub one_base : ((c : ℕ) (info : TypeInfo) → slice_get w.types c ≡ Some info → IsSingle w c info.params) → (k c g : ℕ) (args : List JavaType) (t u : JavaType) → IsTypeOver w k (ty.Class c args) → Parameterizes g t → Parameterizes g u
       → Subtype w (ty.Class c args) t → Subtype w (ty.Class c args) u → t ≡ u
-  one_base k c g args t u over is_t is_u up_t up_u =
+  one_base single k c g args t u over is_t is_u up_t up_u =
       let parts = class_parts w k (ty.Class c args) c args over refl in
       elim parts.2 [
         | inl none ↦
             let low : (v : JavaType) → Subtype w (ty.Class c args) v → Subtype w (with_own c parts.0.params) v = λ v h. through (raw _ _) (subst (λ xs. Subtype w (ty.Class c xs) v) none h) in
-            sound.single c parts.0 g t u parts.1 is_t is_u (low t up_t) (low u up_u)
+            single c parts.0 parts.1 g t u is_t is_u (low t up_t) (low u up_u)
         | inr len ↦
             let image = put_own args c parts.0.params len in
             let own = own_over w c parts.0 parts.1 in
@@ -173,7 +173,7 @@ module _ (w : World) (sound : IsSound w) where
             let class_b = same_class b.0 g _ is_u.0 (sym (put_class args b.0 b.1) ∙ b.2 ∙ is_u.1) in
             let some_a : a.1 ≡ [] → ⊥ = λ none. is_t.2 (sym class_a.1 ∙ ap (map (substitute args)) none) in
             let some_b : b.1 ≡ [] → ⊥ = λ none. is_u.2 (sym class_b.1 ∙ ap (map (substitute args)) none) in
-            let alike = sound.single c parts.0 g (ty.Class a.0 a.1) (ty.Class b.0 b.1) parts.1
+            let alike = single c parts.0 parts.1 g (ty.Class a.0 a.1) (ty.Class b.0 b.1)
             (a.1, ap (λ g. ty.Class g a.1) class_a.0, some_a) (b.1, ap (λ g. ty.Class g b.1) class_b.0, some_b) a.3 b.3 in
             sym a.2 ∙ ap (substitute args) alike ∙ b.2
       ]

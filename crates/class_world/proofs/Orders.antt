@@ -9,7 +9,7 @@ use Rattle.class_world.specs.declared.world.JavaType.{JavaType}
 use Rattle.class_world.specs.declared.world.JavaType.TheVariants as ty
 use Rattle.class_world.specs.Types.{object_type, substitute, erased, variables, with_own, IsReference, of_class, of_variable, of_array, AreReferences, IsTypeOver, a_primitive, the_null, a_class, a_variable, an_array}
 use Rattle.class_world.specs.Subtypes.{Subtype, same, through, declared, object, raw, null, arrays, char_int, int_long, IsDeclaredSuper, IsSeenAs, Parameterizes}
-use Rattle.class_world.specs.Sound.{IsSound, IsSuper}
+use Rattle.class_world.specs.Sound.{AreSupers}
 use Rattle.class_world.proofs.Forms.{Kind, kind, primitive_kind, null_kind, class_kind, variable_kind, array_kind, same_primitive, same_variable, same_element, same_class, primitive_refers_not, null_refers_not}
 use Rattle.std.proofs.lemmas.Option.{slice_get_within}
 use Rattle.class_world.proofs.Substs as sub
@@ -124,7 +124,7 @@ widens_on prim.Boolean prim.Int r h k = absurd (cc h)
 widens_on prim.Boolean prim.Char r h k = absurd (cc h)
 widens_on prim.Boolean prim.Long r h k = absurd (cc h)
 
-module _ (w : World) (sound : IsSound w) where
+module _ (w : World) (sound : AreSupers w) where
   -- a declared supertype is a class type over the same variables
   pub declared_above : (n c : ℕ) (xs : List JavaType) (t : JavaType) → IsTypeOver w n (ty.Class c xs) → IsDeclaredSuper w c xs t
       → ((g : ℕ) × (ys : List JavaType) × (t ≡ ty.Class g ys)) × IsTypeOver w n t

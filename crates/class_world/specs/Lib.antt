@@ -1,6 +1,7 @@
 pub mod Types
 pub mod Subtypes
 pub mod Sound
+pub mod Merged
 pub mod Subclasses
 pub mod Members
 pub mod Lookup

@@ -43,13 +43,20 @@ pub record IsRow (w : World) (c n : ℕ) (a : Above) : Type 0 where
 abbrev pub IsSuper : World → ℕ → JavaType → Type 0
 IsSuper w n d = IsTypeOver w n d × ((g : ℕ) × (args : List JavaType) × (info : TypeInfo) × (d ≡ ty.Class g args) × (slice_get w.types g ≡ Some info) × (length args ≡ info.params))
 
--- The declared supertypes and the table are in order: Object is above all and declares none, no class is above itself (each has a rank, above those of its
--- declared supertypes), none is below two parameterizations of one class (8.1.5), and each has its row.
-pub record IsSound (w : World) : Type 0 where
+-- What the types declare is in order: Object has no supertype and no parameter, and each declared supertype is one.
+pub record AreSupers (w : World) : Type 0 where
   pub top : (info : TypeInfo) → slice_get w.types 0 ≡ Some info → (info.params ≡ 0) × (info.supers ≡ [])
   pub supers : (c : ℕ) (info : TypeInfo) (d : JavaType) → slice_get w.types c ≡ Some info → IsDirectSuper w c d → IsSuper w info.params d
+
+-- no class with its own variables is below two parameterizations of one class (8.1.5)
+abbrev pub IsSingle : World → ℕ → ℕ → Type 0
+IsSingle w c n = (g : ℕ) (t u : JavaType) → Parameterizes g t → Parameterizes g u → Subtype w (with_own c n) t → Subtype w (with_own c n) u → t ≡ u
+
+-- What the types declare is in order, no class is above itself (each has a rank, above those of its declared supertypes), none is below two parameterizations of one
+-- class, and the table has the row of each.
+pub record IsSound (w : World) : Type 0 where
+  pub declared : AreSupers w
   pub rank : ℕ → ℕ
   pub falls : (c g : ℕ) (args : List JavaType) → IsDirectSuper w c (ty.Class g args) → rank g < rank c
-  pub single : (c : ℕ) (info : TypeInfo) (g : ℕ) (t u : JavaType) → slice_get w.types c ≡ Some info → Parameterizes g t → Parameterizes g u
-      → Subtype w (with_own c info.params) t → Subtype w (with_own c info.params) u → t ≡ u
+  pub single : (c : ℕ) (info : TypeInfo) → slice_get w.types c ≡ Some info → IsSingle w c info.params
   pub rows : (c : ℕ) (info : TypeInfo) → slice_get w.types c ≡ Some info → (a : Above) × (slice_get w.above c ≡ Some a) × IsRow w c info.params a

@@ -5,6 +5,7 @@ pub mod laws;
 mod members;
 mod order;
 mod subtypes;
+mod table;
 #[cfg(test)]
 mod tests;
 mod types;

@@ -183,7 +183,7 @@ fn base_of<'a>(w: &'a World, c: u32, args: &[JavaType], g: u32) -> Option<&'a Ja
     None
 }
 
-fn is_of_class(t: &JavaType, g: u32) -> bool
+pub(crate) fn is_of_class(t: &JavaType, g: u32) -> bool
     ensures { IsTrue result ↔ ((args : List JavaType) × (t.now ≡ ty.Class g args)) }
 {
     match t {

@@ -1,4 +1,5 @@
 use Rattle.std.proofs.Common.{refl, arith}
+use Rattle.class_world.proofs.Merges.{class_not_yet}
 use Rattle.class_world.proofs.Decides as by
 use Rattle.class_world.proofs.subtypes.base_of.Goals as goal
 
@@ -9,7 +10,7 @@ returns-then-is_of_class-clause-some c =
 
 pub loop-base-preserved : goal.loop-base-preserved
 loop-base-preserved c =
-    by.base_not_yet c.args.w.now c.requires.sound c.args.g c.loop-base.base-index c.bases_of-bases.result.now c.base-item.result c.loop-base.invariant
+    class_not_yet c.args.g c.loop-base.base-index c.bases_of-bases.result.now c.base-item.result c.loop-base.invariant
     c.loop-base-test.true c.base-item.is (λ is. let never = c.if-is_of_class.ensures.1 is in absurd (cc never))
 
 pub returns-clause-none : goal.returns-clause-none
