@@ -12,3 +12,6 @@ pub mod Decides
 pub mod Steps
 pub mod Words
 pub mod Merges
+pub mod Collected
+pub mod Searches
+pub mod Transports

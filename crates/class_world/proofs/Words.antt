@@ -1,6 +1,7 @@
 -- Bits in a list of words.
-use Rattle.std.proofs.Common.{◌≡◌, ℕ, ◌+◌, ◌*◌, ◌/◌, ◌%◌, ◌<◌, ◌≤◌, zero, suc, List, [], ◌∷◌, Some, ◌⊎◌, ◌↔◌, inl, inr, refl, sym, ap, ◌∙◌, length, bit_or, w64, arith}
-use Rattle.std.specs.Prelude.{slice_get, slice_set, slice_index_or as get_or, ◌^◌, max}
+use Rattle.std.proofs.Common.{◌≡◌, ℕ, ◌+◌, ◌*◌, ◌/◌, ◌%◌, ◌<◌, ◌≤◌, zero, suc, List, [], ◌∷◌, Some, ◌⊎◌, ◌↔◌, inl, inr, refl, sym, ap, ◌∙◌, ◌++◌, length, bit_or, w64, arith}
+use Rattle.std.proofs.lemmas.Grind.{common_steps}
+use Rattle.std.specs.Prelude.{slice_get, slice_set, slice_index_or as get_or, ◌^◌, max, take, drop}
 use Rattle.std.specs.Int.{bit_at}
 use Rattle.std.proofs.lemmas.Nat.Bits.{bit_at_or, bit_at-lt, bit_at_set_same, bit_at_set_other}
 use Rattle.std.proofs.lemmas.Option.{slice_get_read, slice_get_within}
@@ -125,3 +126,12 @@ all_set old words more i before le h = (
   λ is. elim ((before h).0 is) [ inl was ↦ inl was | inr m ↦ inr m.0 ],
   λ is. (before h).1 (elim is [ inl was ↦ inl was | inr m ↦ let lt = slice_get_within more (h / 64) m.0 m.1 in inr (m, omega (arith, lt, le)) ]),
 )
+
+-- what a slice of all of a vector writes back
+pub words_back : (new items : List ℕ) (n : ℕ) → length new ≡ length items → n ≡ length items → take n (new ++ drop (length new) items) ≡ new
+words_back new items n size all = grind (arith, common_steps)
+
+pub length_set : {A : Type 0} (xs : List A) (i : ℕ) (v : A) → length (slice_set xs i v) ≡ length xs
+length_set [] i v = refl
+length_set (x ∷ xs) zero v = refl
+length_set (x ∷ xs) (suc i) v = ap suc (length_set xs i v)

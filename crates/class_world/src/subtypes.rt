@@ -158,7 +158,7 @@ fn bases_of<'a>(w: &'a World, c: u32, args: &[JavaType]) -> &'a [JavaType]
 }
 
 /// Whether the type of the class `c` with these arguments is raw.
-fn is_raw(w: &World, c: u32, args: &[JavaType]) -> bool
+pub(crate) fn is_raw(w: &World, c: u32, args: &[JavaType]) -> bool
     ensures { (info : TypeInfo) → slice_get w.now.types c ≡ Some info → IsTrue result ↔ ((args.now ≡ []) × (0 < info.params)) }
 {
     match w.types.get(c as usize) {

@@ -13,7 +13,7 @@ use java_tree::NoMemory;
 use std::alloc::Global;
 
 /// Sets the bit `g`.
-fn set(words: &mut [u64], g: u32)
+pub(crate) fn set(words: &mut [u64], g: u32)
     requires { g / 64 < length words.old }
     ensures sets { Sets words.old words.new g }
     ensures len { length words.new ≡ length words.old }
@@ -23,7 +23,7 @@ fn set(words: &mut [u64], g: u32)
 }
 
 /// Sets the bits that are set in other words.
-fn set_all(words: &mut [u64], more: &[u64])
+pub(crate) fn set_all(words: &mut [u64], more: &[u64])
     requires { AreWithin more.now (length words.old) }
     ensures sets { SetsAll words.old words.new more.now }
     ensures len { length words.new ≡ length words.old }
@@ -53,7 +53,7 @@ fn add(bases: &mut Vec<JavaType>, g: u32, t: JavaType) -> Result<bool, NoMemory>
 }
 
 /// The number of a type's class; 0 for a type that has none.
-fn class_of(t: &JavaType) -> u32
+pub(crate) fn class_of(t: &JavaType) -> u32
     ensures { (g : ℕ) (args : List JavaType) → t.now ≡ ty.Class g args → result ≡ g }
 {
     match t {
@@ -63,7 +63,7 @@ fn class_of(t: &JavaType) -> u32
 }
 
 /// A type's arguments.
-fn args_of(t: &JavaType) -> &[JavaType]
+pub(crate) fn args_of(t: &JavaType) -> &[JavaType]
     ensures { (g : ℕ) (args : List JavaType) → t.now ≡ ty.Class g args → result.now ≡ args }
 {
     match t {
@@ -90,7 +90,7 @@ fn add_put(
 }
 
 /// Adds parameterized types with the arguments put, those that aren't there. `false` where two parameterizations of one class come together.
-fn add_all(
+pub(crate) fn add_all(
     alloc: Global,
     bases: &mut Vec<JavaType>,
     args: &[JavaType],
