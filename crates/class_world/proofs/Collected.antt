@@ -80,10 +80,8 @@ pub put_all_parameterized : (old new args more : List JavaType) (P : JavaType �
 put_all_parameterized old new args more P gains told all k b at = elim ((gains b).0 (k, at)) [ inl was ↦ all was.0 b was.1 | inr put ↦ ((told b).0 put).0 ]
 
 module _ (w : World) (sound : AreSupers w) where
-
   -- the class c, what it declares, and its declared supertypes
   module _ (c : ℕ) (info : TypeInfo) (at : slice_get w.types c ≡ Some info) where
-
     own : JavaType
     own = with_own c info.params
 
@@ -198,8 +196,7 @@ module _ (w : World) (sound : AreSupers w) where
         let sup = (super_is k d there).1 in
         let row = row_at rows k d have there in
         let same_words = read sup.0 sup.1 sup.3 row.0 row.1 in
-        let told = row.2.types h in
-        (
+        let told = row.2.types h in (
           λ is. subst (λ d. Subtype w d (ty.Class h [])) (sym sup.3) (bare_alike w sound sup.0 h _ sup.1 (told.0 (subst (λ ws. IsSet ws h) same_words is))),
           λ up. subst (λ ws. IsSet ws h) (sym same_words) (told.1 (bare_alike w sound sup.0 h sup.1 _ (subst (λ d. Subtype w d (ty.Class h [])) sup.3 up))),
         )
@@ -220,11 +217,10 @@ module _ (w : World) (sound : AreSupers w) where
         let row = row_at rows k d have there in
         let same_args = read sup.1.0 sup.1.1 sup.1.3 in
         let same_more = read' sup.1.0 sup.1.1 sup.1.3 row.0 row.1 in
-        let put = own_bases w sound info.params sup.1.0 sup.1.2 sup.1.1 row.0.bases sup.1.4 sup.1.5 (subst (IsTypeOver w info.params) sup.1.3 sup.0) row.2.bases in
-        (
+        let put = own_bases w sound info.params sup.1.0 sup.1.2 sup.1.1 row.0.bases sup.1.4 sup.1.5 (subst (IsTypeOver w info.params) sup.1.3 sup.0) row.2.bases in (
           subst (λ d. (u : JavaType) → IsPutOf args more u ↔ IsBase w d u) (sym sup.1.3)
-            (subst (λ xs. (u : JavaType) → IsPutOf xs more u ↔ IsBase w (ty.Class sup.1.0 sup.1.1) u) (sym same_args)
-            (subst (λ bs. (u : JavaType) → IsPutOf sup.1.1 bs u ↔ IsBase w (ty.Class sup.1.0 sup.1.1) u) (sym same_more) put)),
+              (subst (λ xs. (u : JavaType) → IsPutOf xs more u ↔ IsBase w (ty.Class sup.1.0 sup.1.1) u) (sym same_args)
+              (subst (λ bs. (u : JavaType) → IsPutOf sup.1.1 bs u ↔ IsBase w (ty.Class sup.1.0 sup.1.1) u) (sym same_more) put)),
           λ j t at. ((row.2.bases t).0 (j, subst (λ bs. slice_get bs j ≡ Some t) same_more at)).0,
         )
 
@@ -234,8 +230,7 @@ module _ (w : World) (sound : AreSupers w) where
     raw_of_super rows k d more there read =
         let sup = super_is k d there in
         let list = read sup.1.0 sup.1.1 sup.1.2 sup.1.3 sup.1.4 in
-        let put = raw_bases w sound sup.1.0 sup.1.2 more sup.1.4 list in
-        (
+        let put = raw_bases w sound sup.1.0 sup.1.2 more sup.1.4 list in (
           subst (λ s. (u : JavaType) → IsPutOf [] more u ↔ IsBase w s u) (sym (ap erased sup.1.3 ∙ erased_class sup.1.0 sup.1.1)) put,
           λ j t at. ((list t).0 (j, at)).0,
         )
@@ -307,8 +302,12 @@ bare_own w g (suc n) bases none list = absurd (none (omega arith))
 pub clash_above : (w : World) (s : JavaType) (old args more : List JavaType) → ((u : JavaType) → IsListed old u → Subtype w s u) → ((u : JavaType) → IsPutOf args more u → Subtype w s u)
     → Clash old args more → (g : ℕ) × IsBelowTwo w s g
 clash_above w s old args more listed put h = (
-  h.0, (
-    h.1, h.2, h.3, h.4,
+  h.0,
+  (
+    h.1,
+    h.2,
+    h.3,
+    h.4,
     elim h.5 [ inl was ↦ listed h.1 was | inr new ↦ put h.1 new ],
     elim h.6 [ inl was ↦ listed h.2 was | inr new ↦ put h.2 new ],
     h.7,

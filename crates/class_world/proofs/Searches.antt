@@ -69,7 +69,6 @@ length_snoc [] x = refl
 length_snoc (y ∷ ys) x = let rest = length_snoc ys x in omega (arith, rest)
 
 module _ (w : World) (sound : AreSupers w) where
-
   -- the class of a declared supertype is one of the world
   pub super_within : (c g : ℕ) (args : List JavaType) → IsDirectSuper w c (ty.Class g args) → g < length w.types
   super_within c g args h =
@@ -163,7 +162,7 @@ module _ (w : World) (sound : AreSupers w) where
       let top_at : slice_get stack (length rest) ≡ Some top = ap (λ xs. slice_get xs (length rest)) is_stack ∙ at_last rest top in
       let up : Subtype w (ty.Class top []) (ty.Class g []) = bare_declared w sound top super.0 (ty.Class g args) super.2 super.1 super.3 g args refl in
       let old_or_last : (i c : ℕ) → slice_get longer i ≡ Some c → (slice_get stack i ≡ Some c) ⊎ ((c ≡ g) × (i ≡ length stack)) =
-        λ i c at. first_or_end stack g c i (ap (λ xs. slice_get xs i) (sym is_longer) ∙ at) in
+      λ i c at. first_or_end stack g c i (ap (λ xs. slice_get xs i) (sym is_longer) ∙ at) in
       let size : length stack ≡ length rest + 1 = ap length is_stack ∙ longer_by_one rest top in
       record {
         seen_size = ap length is_new ∙ length_set seen g true ∙ h.seen_size;

@@ -74,7 +74,6 @@ place_at (x ∷ xs) (suc i) c e = go (same_or_other x c) (place_at xs i c e)
 -- from a world to one with the same types
 
 module _ (w v : World) (e : w.types ≡ v.types) where
-
   known : (c : ℕ) (info : TypeInfo) → slice_get w.types c ≡ Some info → slice_get v.types c ≡ Some info
   known c info h = ap (λ ts. slice_get ts c) (sym e) ∙ h
 
@@ -100,13 +99,12 @@ module _ (w v : World) (e : w.types ≡ v.types) where
   over n t (an_array {element = x} some part) = an_array some (over n x part)
 
 module _ (w v : World) (e : w.types ≡ v.types) where
-
   supers_there : AreSupers w → AreSupers v
   supers_there sup = record {
     top = λ info at. sup.top info (known v w (sym e) 0 info at);
     supers = λ c info d at h.
-      let s = sup.supers c info d (known v w (sym e) c info at) (direct v w (sym e) c d h) in
-      (over w v e info.params d s.0, (s.1.0, s.1.1, s.1.2, s.1.3, known w v e s.1.0 s.1.2 s.1.4, s.1.5));
+        let s = sup.supers c info d (known v w (sym e) c info at) (direct v w (sym e) c d h) in
+        (over w v e info.params d s.0, (s.1.0, s.1.1, s.1.2, s.1.3, known w v e s.1.0 s.1.2 s.1.4, s.1.5));
   }
 
   row_there : (c n : ℕ) (a : Above) → IsRow w c n a → IsRow v c n a
@@ -121,17 +119,17 @@ module _ (w v : World) (e : w.types ≡ v.types) where
     declared = supers_there sup;
     rank = place listed;
     falls = λ c g args h.
-      let low = direct v w (sym e) c (ty.Class g args) h in
-      let in_list = seq.all c (slice_get_within w.types c low.0 low.1) in
-      let first = place_at listed in_list.0 c in_list.1 in
-      let under = seq.before (place listed c) c g args first.1 low in
-      let second = place_at listed under.0 g under.2 in
-      omega (arith, second.0, under.1);
+        let low = direct v w (sym e) c (ty.Class g args) h in
+        let in_list = seq.all c (slice_get_within w.types c low.0 low.1) in
+        let first = place_at listed in_list.0 c in_list.1 in
+        let under = seq.before (place listed c) c g args first.1 low in
+        let second = place_at listed under.0 g under.2 in
+        omega (arith, second.0, under.1);
     single = λ c info at g t u p q a b.
-      let at' = known v w (sym e) c info at in
-      (filled c (slice_get_within w.types c info at')).1 info at' g t u p q (ordered v w (sym e) _ _ a) (ordered v w (sym e) _ _ b);
+        let at' = known v w (sym e) c info at in
+        (filled c (slice_get_within w.types c info at')).1 info at' g t u p q (ordered v w (sym e) _ _ a) (ordered v w (sym e) _ _ b);
     rows = λ c info at.
-      let at' = known v w (sym e) c info at in
-      let h = (filled c (slice_get_within w.types c info at')).0 info at' in
-      (h.0, ap (λ rs. slice_get rs c) above ∙ h.1, row_there c info.params h.0 h.2);
+        let at' = known v w (sym e) c info at in
+        let h = (filled c (slice_get_within w.types c info at')).0 info at' in
+        (h.0, ap (λ rs. slice_get rs c) above ∙ h.1, row_there c info.params h.0 h.2);
   }

@@ -15,6 +15,7 @@ use java_tree::{Items, NoMemory};
 use std::alloc::Global;
 
 /// A world with its table; or the number of a class that is above itself, or that is below two parameterizations of one class.
+#[derive(Drop)]
 pub enum Ordered {
     Sound(World),
     AboveItself(u32),

@@ -14,7 +14,13 @@ use java_tree::{Items, NoMemory};
 use std::alloc::Global;
 
 /// The row of a class whose declared supertypes' classes have theirs; `None` where the class is below two parameterizations of one class.
-pub(crate) fn row(alloc: Global, w: &World, rows: &[Above], c: u32, info: &TypeInfo) -> Result<Option<Above>, NoMemory>
+pub(crate) fn row(
+    alloc: Global,
+    w: &World,
+    rows: &[Above],
+    c: u32,
+    info: &TypeInfo,
+) -> Result<Option<Above>, NoMemory>
     requires supers { AreSupers w.now }
     requires known { slice_get w.now.types c ≡ Some info.now }
     requires rows { HaveRows w.now rows.now info.now.supers }
@@ -88,7 +94,13 @@ fn bare_bases_of<'a>(w: &World, rows: &'a [Above], g: u32) -> &'a [JavaType]
 }
 
 /// The parameterized types above the class with its own variables; `None` where two are of one class.
-fn bases_above(alloc: Global, w: &World, rows: &[Above], c: u32, info: &TypeInfo) -> Result<Option<Vec<JavaType>>, NoMemory>
+fn bases_above(
+    alloc: Global,
+    w: &World,
+    rows: &[Above],
+    c: u32,
+    info: &TypeInfo,
+) -> Result<Option<Vec<JavaType>>, NoMemory>
     requires supers { AreSupers w.now }
     requires known { slice_get w.now.types c ≡ Some info.now }
     requires rows { HaveRows w.now rows.now info.now.supers }
@@ -106,7 +118,13 @@ fn bases_above(alloc: Global, w: &World, rows: &[Above], c: u32, info: &TypeInfo
 }
 
 /// The parameterized types above the raw type of a class, where it has parameters; `None` where two are of one class.
-fn raw_bases_above(alloc: Global, w: &World, rows: &[Above], c: u32, info: &TypeInfo) -> Result<Option<Vec<JavaType>>, NoMemory>
+fn raw_bases_above(
+    alloc: Global,
+    w: &World,
+    rows: &[Above],
+    c: u32,
+    info: &TypeInfo,
+) -> Result<Option<Vec<JavaType>>, NoMemory>
     requires supers { AreSupers w.now }
     requires known { slice_get w.now.types c ≡ Some info.now }
     requires rows { HaveRows w.now rows.now info.now.supers }

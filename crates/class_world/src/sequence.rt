@@ -41,7 +41,14 @@ pub(crate) fn sort(alloc: Global, w: &World) -> Result<Sorted, NoMemory>
 }
 
 /// Lists a class after those above it; or gives a class above itself.
-fn finish(alloc: Global, w: &World, start: u32, seen: &mut Vec<bool>, finished: &mut Vec<bool>, listed: &mut Vec<u32>) -> Result<Option<u32>, NoMemory>
+fn finish(
+    alloc: Global,
+    w: &World,
+    start: u32,
+    seen: &mut Vec<bool>,
+    finished: &mut Vec<bool>,
+    listed: &mut Vec<u32>,
+) -> Result<Option<u32>, NoMemory>
     requires supers { AreSupers w.now }
     requires search { IsSearch w.now seen.old.items finished.old.items (start ∷ []) listed.old.items }
     ensures search { IfOk result (λ o. IfNone o (IsSearch w.now seen.new.items finished.new.items [] listed.new.items)) }

@@ -17,15 +17,14 @@ returns-in-Some-2-clause-kept c = λ g has.
     let at = sym c.get.ensures.value ∙ ap option_copied c.in-Some.is in
     let lt : c.args.c < length c.args.rows.now.items = omega (arith, c.requires.within, c.requires.len) in
     row_kept c.args.w.now c.args.rows.now.items c.args.c g c.in-Some.info.now c.in-Some-2.row at
-      (subst (λ o. IfSome o (λ a. IsRow c.args.w.now c.args.c c.in-Some.info.now.params a)) c.in-Some-2.is c.in_ok-row-in-Some.ensures.row) lt has
+    (subst (λ o. IfSome o (λ a. IsRow c.args.w.now c.args.c c.in-Some.info.now.params a)) c.in-Some-2.is c.in_ok-row-in-Some.ensures.row) lt has
 
 pub returns-in-Some-2-clause-row : goal.returns-in-Some-2-clause-row
 returns-in-Some-2-clause-row c = λ h.
     let at = sym c.get.ensures.value ∙ ap option_copied c.in-Some.is in
-    let lt : c.args.c < length c.args.rows.now.items = omega (arith, c.requires.within, c.requires.len) in
-    (
+    let lt : c.args.c < length c.args.rows.now.items = omega (arith, c.requires.within, c.requires.len) in (
       row_written c.args.w.now c.args.rows.now.items c.args.c c.in-Some.info.now c.in-Some-2.row at
-        (subst (λ o. IfSome o (λ a. IsRow c.args.w.now c.args.c c.in-Some.info.now.params a)) c.in-Some-2.is c.in_ok-row-in-Some.ensures.row) lt,
+          (subst (λ o. IfSome o (λ a. IsRow c.args.w.now c.args.c c.in-Some.info.now.params a)) c.in-Some-2.is c.in_ok-row-in-Some.ensures.row) lt,
       row_single c.args.w.now c.args.c c.in-Some.info.now at
-        (subst (λ o. IfSome o (λ a. IsSingle c.args.w.now c.args.c c.in-Some.info.now.params)) c.in-Some-2.is c.in_ok-row-in-Some.ensures.single),
+          (subst (λ o. IfSome o (λ a. IsSingle c.args.w.now c.args.c c.in-Some.info.now.params)) c.in-Some-2.is c.in_ok-row-in-Some.ensures.single),
     )

@@ -18,14 +18,14 @@ loop-c-preserved c =
     record {
       len = c.in_ok-add_row.ensures.len;
       filled = fill_next c.args.w.now c.args.listed.now c.loop-c.rows.items c.add_row.new.rows.items c.loop-c.c-index _ c.loop-c.invariant.filled c.in_ok-add_row.ensures.kept there
-        (c.in_ok-add_row.ensures.row c.if-not-branch.false);
+          (c.in_ok-add_row.ensures.row c.if-not-branch.false);
     }
 
 pub returns : goal.returns
 returns c = (
   c.loop-c.invariant.len,
   λ k lt.
-    let at = c.requires.sequence.all k lt in
-    let within = slice_get_within c.args.listed.now at.0 k at.1 in
-    c.loop-c.invariant.filled at.0 k (omega (arith, within)) at.1,
+      let at = c.requires.sequence.all k lt in
+      let within = slice_get_within c.args.listed.now at.0 k at.1 in
+      c.loop-c.invariant.filled at.0 k (omega (arith, within)) at.1,
 )

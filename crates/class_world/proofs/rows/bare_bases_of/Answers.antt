@@ -16,7 +16,7 @@ returns-else-is_raw c = λ has info at.
     let look = c.in-Some.ensures.lookup in
     let row = by.bare_bases c.args.w.now c.args.rows.now c.args.g c.in-Some.row.now has (slice_get_read c.args.rows.now _ c.args.g c.in-Some.row.now refl look.3.0 look.1) info at in
     subst (AreBases c.args.w.now (ty.Class c.args.g [])) (sym c.as_slice-else-is_raw.ensures)
-      (by.bare_own c.args.w.now c.args.g info.params c.in-Some.row.now.bases (λ some. let never = (c.if-is_raw.ensures info at).1 (refl, some) in absurd (cc never)) row.bases)
+    (by.bare_own c.args.w.now c.args.g info.params c.in-Some.row.now.bases (λ some. let never = (c.if-is_raw.ensures info at).1 (refl, some) in absurd (cc never)) row.bases)
 
 pub returns-in-None : goal.returns-in-None
 returns-in-None c = λ has info at.

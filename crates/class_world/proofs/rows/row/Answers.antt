@@ -13,8 +13,8 @@ returns-clause-row c =
     let n = c.args.info.now.params in
     let size : length c.fill.new.words ≡ length c.in_ok-types.types.items = c.fill.auto.words ∙ ap length c.as_mut_slice.ensures.value in
     row_of_parts w c.args.c n _
-      c.fill.new.words c.in-Some.bases.items c.in-Some-2.raw_bases.items
-      (c.from_vec.ensures ∙ words_back c.fill.new.words c.in_ok-types.types.items c.in_ok-types.types.len size c.in_ok-types.types.ok.0) c.from_vec-2.ensures c.from_vec-3.ensures
-      c.fill.ensures
-      (subst (λ o. IfSome o (λ v. AreBases w (with_own c.args.c n) v.items)) c.in-Some.is c.in_ok-bases.ensures.bases)
-      (subst (λ o. IfSome o (λ v. 0 < n → AreBases w (ty.Class c.args.c []) v.items)) c.in-Some-2.is c.in_ok-raw_bases.ensures.bases)
+    c.fill.new.words c.in-Some.bases.items c.in-Some-2.raw_bases.items
+    (c.from_vec.ensures ∙ words_back c.fill.new.words c.in_ok-types.types.items c.in_ok-types.types.len size c.in_ok-types.types.ok.0) c.from_vec-2.ensures c.from_vec-3.ensures
+    c.fill.ensures
+    (subst (λ o. IfSome o (λ v. AreBases w (with_own c.args.c n) v.items)) c.in-Some.is c.in_ok-bases.ensures.bases)
+    (subst (λ o. IfSome o (λ v. 0 < n → AreBases w (ty.Class c.args.c []) v.items)) c.in-Some-2.is c.in_ok-raw_bases.ensures.bases)

@@ -9,7 +9,7 @@ returns-then-not-is_finished-clause-some c =
     let items = c.supers_of-d-items.result.now in
     let there : slice_get items c.loop-d.d-index ≡ Some c.d-item.result = slice_get_read items (length items) c.loop-d.d-index c.d-item.result refl c.loop-d-test.true c.d-item.is in
     by.unfinished c.args.w.now c.requires.supers c.args.c c.class_of-g.result c.args.finished.now c.d-item.result c.requires.size ((c.supers_of-d-items.ensures c.d-item.result).0 (c.loop-d.d-index, there))
-      c.class_of-g.ensures (λ h. let never = c.is_finished.ensures.1 h in absurd (cc (never, c.if-not-is_finished.true)))
+    c.class_of-g.ensures (λ h. let never = c.is_finished.ensures.1 h in absurd (cc (never, c.if-not-is_finished.true)))
 
 pub loop-d-preserved : goal.loop-d-preserved
 loop-d-preserved c =
