@@ -7,7 +7,7 @@ use Rattle.class_world.specs.declared.world.TypeInfo.{TypeInfo}
 use Rattle.class_world.specs.declared.world.JavaType.{JavaType, out-JavaType}
 use Rattle.class_world.specs.declared.world.JavaType.TheVariants as ty
 use Rattle.class_world.specs.declared.world.JavaType.TheOpen as f
-use Rattle.class_world.specs.Subtypes.{Subtype, same, direct, through, IsDirectSuper, IsBelow, IsClassTree}
+use Rattle.class_world.specs.Subclasses.{Subclass, same, direct, through, IsDirectSuper, IsBelow, IsClassTree}
 
 -- two class types are equal only with one number and the same arguments
 pub same_number : (c d : ℕ) (xs ys : List JavaType) → ty.Class c xs ≡ ty.Class d ys → (c ≡ d) × (xs ≡ ys)
@@ -16,8 +16,8 @@ same_number c d xs ys e =
     (cc h, cc h)
 
 -- what is above a type is the type, or it is above a declared supertype of it
-pub first_step : (w : World) (s t : JavaType) → Subtype w s t
-    → (s ≡ t) ⊎ ((c : ℕ) × (p : JavaType) × (s ≡ ty.Class c []) × IsDirectSuper w c p × Subtype w p t)
+pub first_step : (w : World) (s t : JavaType) → Subclass w s t
+    → (s ≡ t) ⊎ ((c : ℕ) × (p : JavaType) × (s ≡ ty.Class c []) × IsDirectSuper w c p × Subclass w p t)
 first_step w s t same = inl refl
 first_step w s t (direct {c = c} h) = inr (c, t, refl, h, same)
 first_step w s t (through {m = m} a b) =
@@ -58,8 +58,8 @@ pub one_superclass : (w : World) (tree : IsClassTree w) (c p q : ℕ) → IsDire
 one_superclass w tree c p q h k = (same_number p q [] [] (one_super w tree c _ _ h k)).0
 
 -- what is above a class is the class, or it is above its superclass
-pub class_step : (w : World) (tree : IsClassTree w) (s t : ℕ) → Subtype w (ty.Class s []) (ty.Class t [])
-    → (s ≡ t) ⊎ ((p : ℕ) × IsDirectSuper w s (ty.Class p []) × Subtype w (ty.Class p []) (ty.Class t []))
+pub class_step : (w : World) (tree : IsClassTree w) (s t : ℕ) → Subclass w (ty.Class s []) (ty.Class t [])
+    → (s ≡ t) ⊎ ((p : ℕ) × IsDirectSuper w s (ty.Class p []) × Subclass w (ty.Class p []) (ty.Class t []))
 class_step w tree s t h =
     elim (first_step w (ty.Class s []) (ty.Class t []) h) [
       | inl e ↦ inl (same_number s t [] [] e).0
@@ -68,12 +68,12 @@ class_step w tree s t h =
           inr (
             at.0,
             subst (λ c. IsDirectSuper w c (ty.Class at.0 [])) (sym (same_number s k.0 [] [] k.2).0) (subst (λ u. IsDirectSuper w k.0 u) at.1 k.3),
-            subst (λ u. Subtype w u (ty.Class t [])) at.1 k.4,
+            subst (λ u. Subclass w u (ty.Class t [])) at.1 k.4,
           )
     ]
 
 -- what is above a class is a class of a rank not above its own
-pub above_is_class : (w : World) (tree : IsClassTree w) (u t : JavaType) → Subtype w u t → (s : ℕ) → u ≡ ty.Class s []
+pub above_is_class : (w : World) (tree : IsClassTree w) (u t : JavaType) → Subclass w u t → (s : ℕ) → u ≡ ty.Class s []
     → (d : ℕ) × (t ≡ ty.Class d []) × (tree.rank d ≤ tree.rank s)
 above_is_class w tree u t same s e = (s, e, omega arith)
 above_is_class w tree u t (direct {c = c} h) s e =
@@ -87,15 +87,15 @@ above_is_class w tree u t (through {m = m} a b) s e =
     (high.0, high.1, omega (arith, low.2, high.2))
 
 -- a class without a superclass is below itself alone
-pub top : (w : World) (tree : IsClassTree w) (s t : ℕ) → ((u : JavaType) → IsDirectSuper w s u → ⊥) → Subtype w (ty.Class s []) (ty.Class t []) → s ≡ t
+pub top : (w : World) (tree : IsClassTree w) (s t : ℕ) → ((u : JavaType) → IsDirectSuper w s u → ⊥) → Subclass w (ty.Class s []) (ty.Class t []) → s ≡ t
 top w tree s t none h = elim (class_step w tree s t h) [ inl e ↦ e | inr k ↦ absurd (none _ k.1) ]
 
 -- from a class that isn't t the way to t goes over the superclass
-pub up : (w : World) (tree : IsClassTree w) (s t p : ℕ) → IsDirectSuper w s (ty.Class p []) → ¬ (s ≡ t) → Subtype w (ty.Class s []) (ty.Class t [])
-    → Subtype w (ty.Class p []) (ty.Class t [])
+pub up : (w : World) (tree : IsClassTree w) (s t p : ℕ) → IsDirectSuper w s (ty.Class p []) → ¬ (s ≡ t) → Subclass w (ty.Class s []) (ty.Class t [])
+    → Subclass w (ty.Class p []) (ty.Class t [])
 up w tree s t p e n h = elim (class_step w tree s t h) [
   | inl alike ↦ absurd (n alike)
-  | inr k ↦ subst (λ x. Subtype w (ty.Class x []) (ty.Class t [])) (one_superclass w tree s k.0 p k.1 e) k.2
+  | inr k ↦ subst (λ x. Subclass w (ty.Class x []) (ty.Class t [])) (one_superclass w tree s k.0 p k.1 e) k.2
 ]
 
 -- a class of rank 0 has no superclass
@@ -114,7 +114,7 @@ none_below_itself w tree c h =
     absurd (omega (arith, above.2))
 
 -- below is a subtype and not the same
-pub below_is_proper : (w : World) (s t : ℕ) → IsClassTree w → IsBelow w s t ↔ ((s ≡ t → ⊥) × Subtype w (ty.Class s []) (ty.Class t []))
+pub below_is_proper : (w : World) (s t : ℕ) → IsClassTree w → IsBelow w s t ↔ ((s ≡ t → ⊥) × Subclass w (ty.Class s []) (ty.Class t []))
 below_is_proper w s t tree = (
   λ h. (λ e. none_below_itself w tree t (subst (λ x. IsBelow w x t) e h), through (direct h.1) h.2),
   λ h. elim (class_step w tree s t h.1) [ inl e ↦ absurd (h.0 e) | inr k ↦ k ],

@@ -8,7 +8,7 @@ use Rattle.class_world.specs.declared.world.World.{World}
 use Rattle.class_world.specs.declared.world.MethodInfo.{MethodInfo}
 use Rattle.class_world.specs.declared.world.JavaType.{JavaType}
 use Rattle.class_world.specs.declared.world.JavaType.TheVariants as ty
-use Rattle.class_world.specs.Subtypes.{Subtype, same, direct, through, IsDirectSuper, IsClassTree}
+use Rattle.class_world.specs.Subclasses.{Subclass, same, direct, through, IsDirectSuper, IsClassTree}
 use Rattle.class_world.specs.Members.{IsMember, declared, inherited, Declares, DeclaresCalled, TakesNothing, IsChosen, AreApart, HaveOneSignature}
 use Rattle.class_world.specs.declared.members.MethodTable.{MethodTable}
 use Rattle.class_world.specs.Tables.{Indexes, found_in}
@@ -91,10 +91,10 @@ last_found w table c at n (Some m) indexed e top alike =
     ((alike m).0 one.0, tt, λ k chosen. one.1 k ((alike k).1 chosen))
 
 -- a chosen method is declared by the class or by one above it
-pub chosen_declared : (w : World) (c : ℕ) (n : Name) (m : ℕ) → IsChosen w c n m → (d : ℕ) × Subtype w (ty.Class c []) (ty.Class d []) × DeclaresCalled w d n m
+pub chosen_declared : (w : World) (c : ℕ) (n : Name) (m : ℕ) → IsChosen w c n m → (d : ℕ) × Subclass w (ty.Class c []) (ty.Class d []) × DeclaresCalled w d n m
 chosen_declared w c n m chosen = go c m chosen.0 chosen.1
   where
-    go : (c m : ℕ) → IsMember w c m → TakesNothing w n m → (d : ℕ) × Subtype w (ty.Class c []) (ty.Class d []) × DeclaresCalled w d n m
+    go : (c m : ℕ) → IsMember w c m → TakesNothing w n m → (d : ℕ) × Subclass w (ty.Class c []) (ty.Class d []) × DeclaresCalled w d n m
     go c m (declared {info = info} h) takes = let is = chosen_info w n m info h.0 takes in (c, same, (info, h, is.0, is.1))
     go c m (inherited {p = p} above member e none) takes = let up = go p m member takes in (up.0, through (direct above) up.1, up.2)
 
@@ -145,10 +145,10 @@ declares_or_not w c n = elim (below (length w.methods)) [
     ]
 
 -- a class has a method by each name by which a class above it has one
-pub chosen_below : (w : World) (s t : ℕ) (n : Name) (m : ℕ) → IsClassTree w → Subtype w (ty.Class s []) (ty.Class t []) → IsChosen w t n m → (k : ℕ) × IsChosen w s n k
+pub chosen_below : (w : World) (s t : ℕ) (n : Name) (m : ℕ) → IsClassTree w → Subclass w (ty.Class s []) (ty.Class t []) → IsChosen w t n m → (k : ℕ) × IsChosen w s n k
 chosen_below w s t n m tree sub chosen = go (ty.Class s []) (ty.Class t []) sub s t refl refl (m, chosen)
   where
-    go : (u v : JavaType) → Subtype w u v → (s t : ℕ) → u ≡ ty.Class s [] → v ≡ ty.Class t [] → (m : ℕ) × IsChosen w t n m → (k : ℕ) × IsChosen w s n k
+    go : (u v : JavaType) → Subclass w u v → (s t : ℕ) → u ≡ ty.Class s [] → v ≡ ty.Class t [] → (m : ℕ) × IsChosen w t n m → (k : ℕ) × IsChosen w s n k
     go u v same s t e f has = (has.0, subst (λ c. IsChosen w c n has.0) (same_number t s [] [] (sym f ∙ e)).0 has.1)
     go u v (direct {c = c} above) s t e f has =
         let here = (same_number c s [] [] e).0 in

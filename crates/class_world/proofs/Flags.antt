@@ -12,7 +12,7 @@ use Rattle.class_world.specs.declared.world.World.{World}
 use Rattle.class_world.specs.declared.world.MethodInfo.{MethodInfo}
 use Rattle.class_world.specs.declared.world.JavaType.{JavaType}
 use Rattle.class_world.specs.declared.world.JavaType.TheVariants as ty
-use Rattle.class_world.specs.Subtypes.{IsDirectSuper, IsClassTree}
+use Rattle.class_world.specs.Subclasses.{IsDirectSuper, IsClassTree}
 use Rattle.class_world.specs.Members.{DeclaresCalled, IsChosen}
 use Rattle.class_world.specs.Names.{IsOwned, IsFlagged, FlagsDeclared, FlagsNames}
 use Rattle.class_world.proofs.Tables.{one_key}

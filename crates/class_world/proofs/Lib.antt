@@ -3,3 +3,15 @@ pub mod Tables
 pub mod Chosen
 pub mod Flags
 pub mod Lookups
+pub mod Forms
+pub mod Substs
+pub mod Orders
+pub mod Lifts
+pub mod Weights
+pub mod Decides
+pub mod Steps
+pub mod Words
+pub mod Merges
+pub mod Collected
+pub mod Searches
+pub mod Transports

@@ -6,7 +6,7 @@ use Rattle.class_world.specs.declared.world.MethodInfo.{MethodInfo}
 use Rattle.class_world.specs.declared.world.TypeInfo.{TypeInfo}
 use Rattle.class_world.specs.declared.world.JavaType.{JavaType}
 use Rattle.class_world.specs.declared.world.JavaType.TheVariants as ty
-use Rattle.class_world.specs.Subtypes.{Subtype, direct, through, IsDirectSuper, IsBelow, IsClassTree}
+use Rattle.class_world.specs.Subclasses.{Subclass, direct, through, IsDirectSuper, IsBelow, IsClassTree}
 use Rattle.class_world.specs.Members.{AreApart, DeclaresCalled, IsChosen}
 use Rattle.class_world.specs.Lookup.{Overrides, IsOrOverrides, AreFamily, IsLookup, LookupIs, AreLookups, itself, first}
 use Rattle.class_world.proofs.Chains.{same_number, class_step, one_superclass, above_is_class, none_below_itself}
@@ -18,28 +18,28 @@ one_info w m i j e f = cc (e, f)
 
 -- ---- the classes above a class are ordered
 
-ordered : (w : World) (tree : IsClassTree w) (n s a b : ℕ) → tree.rank s < n → Subtype w (ty.Class s []) (ty.Class a []) → Subtype w (ty.Class s []) (ty.Class b [])
-    → Subtype w (ty.Class a []) (ty.Class b []) ⊎ Subtype w (ty.Class b []) (ty.Class a [])
+ordered : (w : World) (tree : IsClassTree w) (n s a b : ℕ) → tree.rank s < n → Subclass w (ty.Class s []) (ty.Class a []) → Subclass w (ty.Class s []) (ty.Class b [])
+    → Subclass w (ty.Class a []) (ty.Class b []) ⊎ Subclass w (ty.Class b []) (ty.Class a [])
 ordered w tree zero s a b le h k = absurd (omega arith)
 ordered w tree (suc n) s a b le h k = elim (class_step w tree s a h) [
-  | inl e ↦ inl (subst (λ x. Subtype w (ty.Class x []) (ty.Class b [])) e k)
+  | inl e ↦ inl (subst (λ x. Subclass w (ty.Class x []) (ty.Class b [])) e k)
   | inr p ↦ elim (class_step w tree s b k) [
-    | inl f ↦ inr (subst (λ x. Subtype w (ty.Class x []) (ty.Class a [])) f h)
+    | inl f ↦ inr (subst (λ x. Subclass w (ty.Class x []) (ty.Class a [])) f h)
     | inr q ↦
         let up : p.0 ≡ q.0 = one_superclass w tree s p.0 q.0 p.1 q.1 in
         let falls = tree.falls s p.0 p.1 in
-        ordered w tree n p.0 a b (omega (arith, le, falls)) p.2 (subst (λ x. Subtype w (ty.Class x []) (ty.Class b [])) (sym up) q.2)
+        ordered w tree n p.0 a b (omega (arith, le, falls)) p.2 (subst (λ x. Subclass w (ty.Class x []) (ty.Class b [])) (sym up) q.2)
   ]
 ]
 
 -- two classes above a class are one, or one is below the other
-above_ordered : (w : World) (tree : IsClassTree w) (s a b : ℕ) → Subtype w (ty.Class s []) (ty.Class a []) → Subtype w (ty.Class s []) (ty.Class b []) → (a ≡ b) ⊎ IsBelow w a b ⊎ IsBelow w b a
+above_ordered : (w : World) (tree : IsClassTree w) (s a b : ℕ) → Subclass w (ty.Class s []) (ty.Class a []) → Subclass w (ty.Class s []) (ty.Class b []) → (a ≡ b) ⊎ IsBelow w a b ⊎ IsBelow w b a
 above_ordered w tree s a b h k = elim (ordered w tree (tree.rank s + 1) s a b (omega arith) h k) [
   | inl up ↦ elim (class_step w tree a b up) [ inl e ↦ inl e | inr p ↦ inr (inl p) ]
   | inr up ↦ elim (class_step w tree b a up) [ inl e ↦ inl (sym e) | inr p ↦ inr (inr p) ]
 ]
 
-below_sub : (w : World) (s t : ℕ) → IsBelow w s t → Subtype w (ty.Class s []) (ty.Class t [])
+below_sub : (w : World) (s t : ℕ) → IsBelow w s t → Subclass w (ty.Class s []) (ty.Class t [])
 below_sub w s t h = through (direct h.1) h.2
 
 below_through : (w : World) (s m t : ℕ) → IsBelow w s m → IsBelow w m t → IsBelow w s t
@@ -70,7 +70,7 @@ module _ (w : World) (tree : IsClassTree w) (apart : AreApart w) where
       let params : a.upper.params ≡ b.upper.params = sym a.signature.1 ∙ ap (λ (i : MethodInfo). i.params) low ∙ b.signature.1 in
       let none : b.upper.params ≡ [] = sym b.signature.1 ∙ b.no_parameters in
       let up_q = below_sub w a.lower.owner a.upper.owner a.below in
-      let up_r = subst (λ (i : MethodInfo). Subtype w (ty.Class i.owner []) (ty.Class b.upper.owner [])) (sym low) (below_sub w b.lower.owner b.upper.owner b.below) in
+      let up_r = subst (λ (i : MethodInfo). Subclass w (ty.Class i.owner []) (ty.Class b.upper.owner [])) (sym low) (below_sub w b.lower.owner b.upper.owner b.below) in
       elim (above_ordered w tree a.lower.owner a.upper.owner b.upper.owner up_q up_r) [
         | inl e ↦ inl (inl (apart b.upper.owner b.upper.name q r
             (a.upper, (a.at_upper, e, a.no_constructors.0), name, params ∙ none) (b.upper, (b.at_upper, refl, b.no_constructors.0), refl, none)))
@@ -187,7 +187,7 @@ module _ (w : World) (tree : IsClassTree w) (apart : AreApart w) where
         below = subst (λ x. IsBelow w x high_is.0.owner) (sym low.1.1) (subst (λ x. IsBelow w s x) (sym high_is.1.1) (p.0, p.1, through p.2 high.1));
       }
 
-  climbs : (n s t : ℕ) (name : Name) (m r : ℕ) → tree.rank s < n → Subtype w (ty.Class s []) (ty.Class t []) → IsChosen w s name m → IsChosen w t name r → IsOrOverrides w m r
+  climbs : (n s t : ℕ) (name : Name) (m r : ℕ) → tree.rank s < n → Subclass w (ty.Class s []) (ty.Class t []) → IsChosen w s name m → IsChosen w t name r → IsOrOverrides w m r
   climbs zero s t name m r le up a b = absurd (omega arith)
   climbs (suc n) s t name m r le up a b = elim (class_step w tree s t up) [
     | inl e ↦ inl (chosen_one w t name m r tree apart (subst (λ x. IsChosen w x name m) e a) b)
@@ -199,7 +199,7 @@ module _ (w : World) (tree : IsClassTree w) (apart : AreApart w) where
         ]
   ]
 
-  pub chosen_overrides : (s t : ℕ) (name : Name) (m r : ℕ) → Subtype w (ty.Class s []) (ty.Class t []) → IsChosen w s name m → IsChosen w t name r → IsOrOverrides w m r
+  pub chosen_overrides : (s t : ℕ) (name : Name) (m r : ℕ) → Subclass w (ty.Class s []) (ty.Class t []) → IsChosen w s name m → IsChosen w t name r → IsOrOverrides w m r
   chosen_overrides s t name m r up a b = climbs (tree.rank s + 1) s t name m r (omega arith) up a b
 
   -- ---- each lookup can be told
@@ -261,7 +261,7 @@ module _ (w : World) (tree : IsClassTree w) (apart : AreApart w) where
       let one : above.0 ≡ p = one_superclass w tree i.owner above.0 p above.1 up in
       let name : o.upper.name ≡ i.name = sym o.signature.0 ∙ ap (λ (j : MethodInfo). j.name) (sym same) in
       let there = called_chosen w o.upper.owner i.name q (o.upper, (o.at_upper, refl, o.no_constructors.0), name, sym o.signature.1 ∙ o.no_parameters) in
-      chosen_below w p o.upper.owner i.name q tree (subst (λ x. Subtype w (ty.Class x []) (ty.Class o.upper.owner [])) one above.2) there
+      chosen_below w p o.upper.owner i.name q tree (subst (λ x. Subclass w (ty.Class x []) (ty.Class o.upper.owner [])) one above.2) there
 
   no_upper : (m q : ℕ) (i : MethodInfo) → slice_get w.methods m ≡ Some i → ((t : JavaType) → IsDirectSuper w i.owner t → ⊥) → Overrides w m q → ⊥
   no_upper m q i e top o =

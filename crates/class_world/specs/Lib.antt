@@ -1,4 +1,10 @@
+pub mod Types
 pub mod Subtypes
+pub mod Sound
+pub mod Merged
+pub mod Sorts
+pub mod Ordered
+pub mod Subclasses
 pub mod Members
 pub mod Lookup
 pub mod Tables

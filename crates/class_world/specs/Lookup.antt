@@ -2,7 +2,7 @@
 use Rattle.std.specs.Prelude.{◌≡◌, ℕ, ◌⊎◌, true, false, [], Option, Some, None, slice_get}
 use Rattle.class_world.specs.declared.world.World.{World}
 use Rattle.class_world.specs.declared.world.MethodInfo.{MethodInfo}
-use Rattle.class_world.specs.Subtypes.{IsBelow}
+use Rattle.class_world.specs.Subclasses.{IsBelow}
 use Rattle.class_world.specs.Members.{HaveOneSignature, IsChosen}
 
 -- The first method overrides the second: it has its signature, and its class is below. Small programs declare no private method, and their one

@@ -4,7 +4,7 @@ use Rattle.java_tree.specs.declared.tree.Name.{Name}
 use Rattle.class_world.specs.declared.world.World.{World}
 use Rattle.class_world.specs.declared.world.MethodInfo.{MethodInfo}
 use Rattle.class_world.specs.declared.world.JavaType.TheVariants as ty
-use Rattle.class_world.specs.Subtypes.{IsDirectSuper}
+use Rattle.class_world.specs.Subclasses.{IsDirectSuper}
 
 -- the class declares this method
 abbrev pub Declares : World → ℕ → ℕ → MethodInfo → Type 0

@@ -3,7 +3,7 @@
 ghost use Rattle.std.specs.Prelude.{◌≡◌, ℕ, Option};
 ghost use Rattle.class_world.specs.declared.world.World as worlds;
 ghost use Rattle.class_world.specs.Members.{AreApart};
-ghost use Rattle.class_world.specs.Subtypes.{IsClassTree};
+ghost use Rattle.class_world.specs.Subclasses.{IsClassTree};
 ghost use Rattle.class_world.specs.Lookup.{AreLookups, LookupIs};
 
 /// In a tree of classes each method has its lookup on each class, or none.

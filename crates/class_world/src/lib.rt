@@ -4,10 +4,19 @@
 pub mod laws;
 mod members;
 mod order;
+mod order_table;
+mod rows;
+mod sequence;
+mod subtypes;
+mod table;
 #[cfg(test)]
 mod tests;
+mod types;
 pub mod world;
 
 pub use members::{MethodTable, find_method, member_names};
-pub use order::{is_below, is_sub, is_sub_class, superclass};
-pub use world::{FieldInfo, JavaType, MethodInfo, TypeInfo, Walk, World};
+pub use order::{is_below, is_sub_class, superclass};
+pub use order_table::{Ordered, with_order};
+pub use subtypes::{fits, is_sub, is_unchecked, super_as};
+pub use types::{erase, is_put, is_same};
+pub use world::{Above, FieldInfo, JavaType, MethodInfo, TypeInfo, Walk, World};

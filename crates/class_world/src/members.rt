@@ -4,7 +4,7 @@ ghost use Rattle.std.specs.Prelude.{◌≡◌, ℕ, ◌<◌, ◌^◌, ◌↔◌,
 ghost use Rattle.std.specs.List.{Contains};
 ghost use Rattle.class_world.specs.Members.{AreApart, DeclaresCalled, IsChosen};
 ghost use Rattle.class_world.specs.Names.{ListsMethods, IsOwned, FlagsDeclared, FlagsNames};
-ghost use Rattle.class_world.specs.Subtypes.{IsClassTree};
+ghost use Rattle.class_world.specs.Subclasses.{IsClassTree};
 ghost use Rattle.class_world.specs.Tables.{Indexes, found_in};
 
 use crate::order::superclass;

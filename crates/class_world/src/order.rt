@@ -1,7 +1,7 @@
 //! The order of the classes (JLS 3rd edition, 4.10.2), along the declared superclasses.
 
 ghost use Rattle.std.specs.Prelude.{◌≡◌, [], ◌↔◌, IsTrue, IfSome, IfNone};
-ghost use Rattle.class_world.specs.Subtypes.{Subtype, IsBelow, IsDirectSuper, IsClassTree, IsClassType};
+ghost use Rattle.class_world.specs.Subclasses.{Subclass, IsBelow, IsDirectSuper, IsClassTree};
 ghost use Rattle.class_world.specs.declared.world.JavaType.TheVariants as ty;
 
 use crate::world::{JavaType, World};
@@ -21,7 +21,7 @@ pub fn superclass(w: &World, c: u32) -> Option<u32>
 /// Whether the class numbered `s` is the class numbered `t` or below it.
 pub fn is_sub_class(w: &World, s: u32, t: u32) -> bool
     requires { IsClassTree w.now }
-    ensures { IsTrue result ↔ Subtype w.now (ty.Class s []) (ty.Class t []) }
+    ensures { IsTrue result ↔ Subclass w.now (ty.Class s []) (ty.Class t []) }
 {
     let mut at = s;
     // A chain of superclasses has at most as many steps as there are types.
@@ -35,18 +35,6 @@ pub fn is_sub_class(w: &World, s: u32, t: u32) -> bool
         }
     }
     at == t
-}
-
-/// Whether the class type `s` is a subtype of the class type `t`.
-pub fn is_sub(w: &World, s: &JavaType, t: &JavaType) -> bool
-    requires classes { IsClassType s.now × IsClassType t.now }
-    requires tree { IsClassTree w.now }
-    ensures { IsTrue result ↔ Subtype w.now s.now t.now }
-{
-    match (s, t) {
-        (JavaType::Class(s, _), JavaType::Class(t, _)) => is_sub_class(w, *s, *t),
-        _ => false,
-    }
 }
 
 /// Whether the class numbered `s` is below the class numbered `t`, and not the same.

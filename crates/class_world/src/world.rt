@@ -59,11 +59,20 @@ pub struct Walk {
     pub next: u32,
 }
 
-/// All declared types, the built-in ones first, from Object with the number 0; then those of the files in order.
+/// What is above a declared class. `types` has a bit for each class whose type without arguments is above, its own included, by number and 64 to a word; `bases` has the parameterized types above the class with its own variables, and `raw_bases` those above its raw type, where it has parameters.
+#[derive(Drop)]
+pub struct Above {
+    pub types: Items<u64>,
+    pub bases: Items<JavaType>,
+    pub raw_bases: Items<JavaType>,
+}
+
+/// All declared types, the built-in ones first, from Object with the number 0; then those of the files in order. `above` is the table of their order, by number; it is empty where nothing asks for it.
 #[derive(Drop)]
 pub struct World {
     pub types: Items<TypeInfo>,
     pub methods: Items<MethodInfo>,
     pub fields: Items<FieldInfo>,
     pub walk: Option<Walk>,
+    pub above: Items<Above>,
 }

@@ -1,6 +1,6 @@
 use Rattle.std.proofs.Common.{ℕ, ◌+◌, ◌≤◌, ◌↔◌, length}
 use Rattle.class_world.specs.Members.{IsChosen}
-use Rattle.class_world.specs.Subtypes.{IsClassTree}
+use Rattle.class_world.specs.Subclasses.{IsClassTree}
 use Rattle.class_world.proofs.members.find_method.Given as goal
 
 abbrev pub invariant-loop : goal.invariant-loop

@@ -1,5 +1,5 @@
 use Rattle.std.proofs.Common.{◌≡◌, ◌+◌, ◌≤◌, length}
-use Rattle.class_world.specs.Subtypes.{IsClassTree}
+use Rattle.class_world.specs.Subclasses.{IsClassTree}
 use Rattle.class_world.proofs.Flags.{HasWalked}
 use Rattle.class_world.proofs.members.member_names.Given as goal
 

@@ -1,6 +1,6 @@
 use Rattle.std.proofs.Common.{subst, sym, ◌∙◌}
 use Rattle.std.proofs.lemmas.Bool.{eq-eqb, not_from_true, true≢false}
-use Rattle.class_world.specs.Subtypes.{IsBelow}
+use Rattle.class_world.specs.Subclasses.{IsBelow}
 use Rattle.class_world.proofs.Chains.{below_is_proper, none_below_itself}
 use Rattle.class_world.proofs.order.is_below.Goals as goal
 

@@ -1,5 +1,5 @@
 use Rattle.std.proofs.Common.{◌≡◌, [], subst, arith, nat_eq, true}
-use Rattle.class_world.specs.Subtypes.{Subtype, same, direct, through}
+use Rattle.class_world.specs.Subclasses.{Subclass, same, direct, through}
 use Rattle.class_world.specs.declared.world.JavaType.TheVariants as ty
 use Rattle.class_world.proofs.Chains.{top, up, lowest}
 use Rattle.class_world.proofs.order.is_sub_class.Goals as goal
@@ -20,7 +20,7 @@ loop-preserved c = record {
 
 pub returns : goal.returns
 returns c = (
-  λ h. subst (λ x. Subtype c.args.w.now (ty.Class c.args.s []) (ty.Class x [])) (to_eq h) c.loop.invariant.from,
+  λ h. subst (λ x. Subclass c.args.w.now (ty.Class c.args.s []) (ty.Class x [])) (to_eq h) c.loop.invariant.from,
   λ h. from_eq (top c.args.w.now c.requires c.loop.at c.args.t
       (lowest c.args.w.now c.requires c.loop.at c.loop.counter (c.loop.invariant.low c.requires) (omega arith)) (c.loop.invariant.on h)),
 )

@@ -1,0 +1,20 @@
+use Rattle.std.proofs.Common.{[], refl, sym, subst}
+use Rattle.class_world.specs.Types.{IsReference, of_variable, of_array}
+use Rattle.class_world.proofs.Decides as by
+use Rattle.class_world.proofs.subtypes.is_raw_alone.Goals as goal
+
+pub returns-in-Prim : goal.returns-in-Prim
+returns-in-Prim c = (λ h. absurd (cc h), λ h. absurd (by.primitive_under c.args.w.now c.requires.sound c.args.s.now c.in-Prim.field-0 c.args.g [] c.in-Prim.is h.0))
+
+pub returns-in-Null : goal.returns-in-Null
+returns-in-Null c = (λ h. absurd (cc h), λ h. absurd (by.null_parameterized c.args.w.now c.requires.sound c.args.s.now c.args.g c.in-Null.is h.1))
+
+pub returns-in-Var : goal.returns-in-Var
+returns-in-Var c =
+    by.object_alone c.args.w.now c.requires.sound c.args.s.now c.args.g (by.variable_under c.args.w.now c.requires.sound c.args.s.now c.in-Var.field-0 c.in-Var.is)
+    (subst IsReference (sym c.in-Var.is) (of_variable _))
+
+pub returns-in-Array : goal.returns-in-Array
+returns-in-Array c =
+    by.object_alone c.args.w.now c.requires.sound c.args.s.now c.args.g (by.array_under c.args.w.now c.requires.sound c.args.s.now c.in-Array.field-0 c.in-Array.is)
+    (subst IsReference (sym c.in-Array.is) (of_array _))

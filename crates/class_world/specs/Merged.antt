@@ -1,0 +1,91 @@
+-- What the pieces say from which the table of the order is built.
+use Rattle.std.specs.Prelude.{◌≡◌, ℕ, ◌<◌, ◌≤◌, ◌/◌, Bool, true, false, List, [], Some, slice_get, length, ◌↔◌, ◌⊎◌}
+use Rattle.class_world.specs.declared.world.World.{World}
+use Rattle.class_world.specs.declared.world.TypeInfo.{TypeInfo}
+use Rattle.class_world.specs.declared.world.Above.{Above}
+use Rattle.class_world.specs.declared.world.JavaType.{JavaType}
+use Rattle.class_world.specs.declared.world.JavaType.TheVariants as ty
+use Rattle.class_world.specs.Subclasses.{IsDirectSuper}
+use Rattle.class_world.specs.Types.{substitute, with_own}
+use Rattle.class_world.specs.Subtypes.{Subtype, Parameterizes, IsBelowTwo}
+use Rattle.class_world.specs.Sound.{IsSet, IsRow, IsSingle}
+
+abbrev pub IsListed : List JavaType → JavaType → Type 0
+IsListed ts t = (k : ℕ) × (slice_get ts k ≡ Some t)
+
+abbrev pub AreParameterized : List JavaType → Type 0
+AreParameterized ts = (k : ℕ) (t : JavaType) → slice_get ts k ≡ Some t → (g : ℕ) × Parameterizes g t
+
+-- no two parameterizations of one class are listed
+abbrev pub AreSingle : List JavaType → Type 0
+AreSingle ts = (g : ℕ) (t u : JavaType) → Parameterizes g t → Parameterizes g u → IsListed ts t → IsListed ts u → t ≡ u
+
+-- the listed types are those that were and t
+abbrev pub Gains : List JavaType → List JavaType → JavaType → Type 0
+Gains old new t = (u : JavaType) → IsListed new u ↔ (IsListed old u ⊎ (u ≡ t))
+
+-- one of the listed types with the arguments put
+abbrev pub IsPutOf : List JavaType → List JavaType → JavaType → Type 0
+IsPutOf args ts u = (k : ℕ) × (b : JavaType) × (slice_get ts k ≡ Some b) × (substitute args b ≡ u)
+
+-- the listed types are those that were and others with the arguments put
+abbrev pub GainsPut : List JavaType → List JavaType → List JavaType → List JavaType → Type 0
+GainsPut old new args more = (u : JavaType) → IsListed new u ↔ (IsListed old u ⊎ IsPutOf args more u)
+
+-- t parameterizes a class of which another parameterization is listed
+abbrev pub ClashOne : List JavaType → JavaType → Type 0
+ClashOne old t = (g : ℕ) × (u : JavaType) × Parameterizes g t × Parameterizes g u × IsListed old u × (u ≡ t → ⊥)
+
+-- two parameterizations of one class are among the types that were and others with the arguments put
+abbrev pub Clash : List JavaType → List JavaType → List JavaType → Type 0
+Clash old args more = (g : ℕ) × (t : JavaType) × (u : JavaType) × Parameterizes g t × Parameterizes g u × (IsListed old t ⊎ IsPutOf args more t) × (IsListed old u ⊎ IsPutOf args more u) × (t ≡ u → ⊥)
+
+-- the bits are those that were and one more
+abbrev pub Sets : List ℕ → List ℕ → ℕ → Type 0
+Sets old new g = (h : ℕ) → IsSet new h ↔ (IsSet old h ⊎ (h ≡ g))
+
+-- the bits are those of both
+abbrev pub SetsAll : List ℕ → List ℕ → List ℕ → Type 0
+SetsAll old new more = (h : ℕ) → IsSet new h ↔ (IsSet old h ⊎ IsSet more h)
+
+-- the number lies within the words
+abbrev pub AreWithin : List ℕ → ℕ → Type 0
+AreWithin words n = (h : ℕ) → IsSet words h → h / 64 < n
+
+-- the class has its row among the rows
+abbrev pub HasRow : World → List Above → ℕ → Type 0
+HasRow w rows g = (info : TypeInfo) → slice_get w.types g ≡ Some info → (a : Above) × (slice_get rows g ≡ Some a) × IsRow w g info.params a
+
+-- so has the class of each of these types
+abbrev pub HaveRows : World → List Above → List JavaType → Type 0
+HaveRows w rows ts = (k : ℕ) (d : JavaType) → slice_get ts k ≡ Some d → (g : ℕ) (args : List JavaType) → d ≡ ty.Class g args → HasRow w rows g
+
+-- the fact holds of one of the first i types
+abbrev pub AmongFirst : (JavaType → Type 0) → List JavaType → ℕ → Type 0
+AmongFirst P ts i = (k : ℕ) × (d : JavaType) × (k < i) × (slice_get ts k ≡ Some d) × P d
+
+-- a parameterized type above s
+abbrev pub IsBase : World → JavaType → JavaType → Type 0
+IsBase w s u = ((g : ℕ) × Parameterizes g u) × Subtype w s u
+
+-- a class is above itself: the class of one of its declared supertypes is below it or it
+abbrev pub IsAboveItself : World → ℕ → Type 0
+IsAboveItself w c = (g : ℕ) × (args : List JavaType) × IsDirectSuper w c (ty.Class g args) × Subtype w (ty.Class g []) (ty.Class c [])
+
+-- All classes in a sequence in which those of the declared supertypes come first.
+pub record IsSequence (w : World) (s : List ℕ) : Type 0 where
+  pub known : (i c : ℕ) → slice_get s i ≡ Some c → c < length w.types
+  pub all : (c : ℕ) → c < length w.types → (i : ℕ) × (slice_get s i ≡ Some c)
+  pub before : (i c g : ℕ) (args : List JavaType) → slice_get s i ≡ Some c → IsDirectSuper w c (ty.Class g args) → (j : ℕ) × (j < i) × (slice_get s j ≡ Some g)
+
+-- The search for a sequence: the classes seen that are not finished wait on the stack, each of which leads to those above it there; the finished ones are listed,
+-- those of their declared supertypes first.
+pub record IsSearch (w : World) (seen finished : List Bool) (stack listed : List ℕ) : Type 0 where
+  pub seen_size : length seen ≡ length w.types
+  pub finished_size : length finished ≡ length w.types
+  pub stacked : (i c : ℕ) → slice_get stack i ≡ Some c → c < length w.types
+  pub waiting : (c : ℕ) → slice_get seen c ≡ Some true → slice_get finished c ≡ Some false → (i : ℕ) × (slice_get stack i ≡ Some c)
+  pub chain : (i j a b : ℕ) → i ≤ j → slice_get stack i ≡ Some a → slice_get stack j ≡ Some b → Subtype w (ty.Class a []) (ty.Class b [])
+  pub known : (i c : ℕ) → slice_get listed i ≡ Some c → c < length w.types
+  pub done : (c : ℕ) → slice_get finished c ≡ Some true → (i : ℕ) × (slice_get listed i ≡ Some c)
+  pub before : (i c g : ℕ) (args : List JavaType) → slice_get listed i ≡ Some c → IsDirectSuper w c (ty.Class g args) → (j : ℕ) × (j < i) × (slice_get listed j ≡ Some g)

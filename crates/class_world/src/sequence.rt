@@ -1,0 +1,110 @@
+//! A sequence of the classes in which those of the declared supertypes come first (JLS 3rd edition, 8.1.4).
+
+ghost use Rattle.std.specs.Prelude.{◌≡◌, ℕ, ◌<◌, ◌≤◌, ◌^◌, List, [], Some, true, false, length, slice_get, IsTrue, IfOk, IfSome, IfNone, ◌↔◌, ◌∷◌};
+ghost use Rattle.class_world.specs.Sound.{AreSupers};
+ghost use Rattle.class_world.specs.Subclasses.{IsDirectSuper};
+ghost use Rattle.class_world.specs.Merged.{IsAboveItself, IsSearch, IsSequence};
+ghost use Rattle.class_world.specs.Sorts.{IsSorted};
+ghost use Rattle.class_world.specs.declared.world.JavaType.TheVariants as ty;
+
+use crate::table::class_of;
+use crate::world::{JavaType, World};
+use java_tree::NoMemory;
+use std::alloc::Global;
+
+/// A sequence of all classes in which the classes of their declared supertypes come first, or a class above itself.
+pub(crate) enum Sorted {
+    Sequence(Vec<u32>),
+    AboveItself(u32),
+}
+
+/// Sorts the classes; takes time for the types and for the declared supertypes.
+pub(crate) fn sort(alloc: Global, w: &World) -> Result<Sorted, NoMemory>
+    requires supers { AreSupers w.now }
+    requires few { length w.now.types < 2 ^ 32 }
+    ensures { IfOk result (λ r. IsSorted w.now r) }
+{
+    let count = w.types.len();
+    let mut seen = vec![in alloc; false; count]?;
+    let mut finished = vec![in alloc; false; count]?;
+    let mut listed = Vec::new(alloc);
+    for start in 0..count as u32 {
+        if !seen[start as usize] {
+            seen[start as usize] = true;
+            match finish(alloc, w, start, &mut seen, &mut finished, &mut listed)? {
+                Some(c) => return Ok(Sorted::AboveItself(c)),
+                None => {}
+            }
+        }
+    }
+    Ok(Sorted::Sequence(listed))
+}
+
+/// Lists a class after those above it; or gives a class above itself.
+fn finish(
+    alloc: Global,
+    w: &World,
+    start: u32,
+    seen: &mut Vec<bool>,
+    finished: &mut Vec<bool>,
+    listed: &mut Vec<u32>,
+) -> Result<Option<u32>, NoMemory>
+    requires supers { AreSupers w.now }
+    requires search { IsSearch w.now seen.old.items finished.old.items (start ∷ []) listed.old.items }
+    ensures search { IfOk result (λ o. IfNone o (IsSearch w.now seen.new.items finished.new.items [] listed.new.items)) }
+    ensures kept { IfOk result (λ o. IfNone o ((c : ℕ) → slice_get seen.old.items c ≡ Some true → slice_get seen.new.items c ≡ Some true)) }
+    ensures above { IfOk result (λ o. IfSome o (λ c. IsAboveItself w.now c)) }
+{
+    let mut stack = vec![in alloc; start]?;
+    while let Some(top) = stack.pop() {
+        match first_unfinished(w, finished.as_slice(), top) {
+            None => {
+                finished[top as usize] = true;
+                listed.push(top)?;
+            }
+            Some(g) => {
+                if seen[g as usize] {
+                    return Ok(Some(top));
+                }
+                seen[g as usize] = true;
+                stack.push(top)?;
+                stack.push(g)?;
+            }
+        }
+    }
+    Ok(None)
+}
+
+/// The class of the first declared supertype that is not finished.
+fn first_unfinished(w: &World, finished: &[bool], c: u32) -> Option<u32>
+    requires supers { AreSupers w.now }
+    requires size { length finished.now ≡ length w.now.types }
+    ensures some { IfSome result (λ g. ((args : List JavaType) × IsDirectSuper w.now c (ty.Class g args)) × (slice_get finished.now g ≡ Some false)) }
+    ensures none { IfNone result ((g : ℕ) (args : List JavaType) → IsDirectSuper w.now c (ty.Class g args) → slice_get finished.now g ≡ Some true) }
+{
+    for d in supers_of(w, c) {
+        let g = class_of(d);
+        if !is_finished(finished, g) {
+            return Some(g);
+        }
+    }
+    None
+}
+
+fn supers_of(w: &World, c: u32) -> &[JavaType]
+    ensures { (d : JavaType) → ((k : ℕ) × (slice_get result.now k ≡ Some d)) ↔ IsDirectSuper w.now c d }
+{
+    match w.types.get(c as usize) {
+        Some(info) => info.supers.as_slice(),
+        None => &[],
+    }
+}
+
+fn is_finished(finished: &[bool], c: u32) -> bool
+    ensures { IsTrue result ↔ (slice_get finished.now c ≡ Some true) }
+{
+    match finished.get(c as usize) {
+        Some(done) => *done,
+        None => false,
+    }
+}
