@@ -14,7 +14,7 @@ use Rattle.java_tree.specs.View.{var_plain, stmt_plain, stmts_plain}
 use Rattle.java_tree.specs.declared.fault.NoMemory.{NoMemory}
 use Rattle.class_world.specs.declared.world.World.{World}
 use Rattle.class_world.specs.declared.world.JavaType.TheVariants as ty
-use Rattle.class_world.specs.Subtypes.{Subtype}
+use Rattle.class_world.specs.Subclasses.{Subclass}
 use Rattle.java_typing.specs.Typing.{Local, find_local, step_type, local_of, scope_after}
 use Rattle.check_decl.specs.declared.scope.Scope.{Scope}
 use Rattle.check_decl.specs.declared.scope.Binding.TheVariants as binding
@@ -23,15 +23,15 @@ use Rattle.check_decl.specs.Holds.{StepHolds, AllHold, IsOfClass, IsClassOf, Dec
 
 module _ (u : SourceUnit) (w : World) (ls : List Local) where
   module _ (n : Node) (f : Bool) (x : TypeExpr) (v : Var) (c d : ℕ) (e : Expr) (fits : Bool) (class : step_type u x ≡ Some c) (init : v.init ≡ Some e)
-      (value : IsClassOf u w ls e (Some d)) (below : IsTrue fits ↔ Subtype w (ty.Class d []) (ty.Class c [])) where
+      (value : IsClassOf u w ls e (Some d)) (below : IsTrue fits ↔ Subclass w (ty.Class d []) (ty.Class c [])) where
     -- a local that is right is initialised with something that fits, and its name is new
     local_fits : StepHolds u w ls (t.Local n f x (v ∷ [])) → IsTrue fits × (find_local ls v.name ≡ None)
     local_fits h =
         let same_init : h.3 ≡ e = same_Some h.3 e (sym h.4 ∙ init) in
         let same_class : h.0 ≡ c = same_Some h.0 c (sym h.1 ∙ class) in
         let same_value : h.5 ≡ d = value.1 h.5 (subst (λ e. IsOfClass u w ls e h.5) same_init h.6) in
-        let low : Subtype w (ty.Class d []) (ty.Class c []) =
-        subst (λ d. Subtype w (ty.Class d []) (ty.Class c [])) same_value (subst (λ c. Subtype w (ty.Class h.5 []) (ty.Class c [])) same_class h.7) in
+        let low : Subclass w (ty.Class d []) (ty.Class c []) =
+        subst (λ d. Subclass w (ty.Class d []) (ty.Class c [])) same_value (subst (λ c. Subclass w (ty.Class h.5 []) (ty.Class c [])) same_class h.7) in
         (below.1 low, h.2)
 
     fitting : IsTrue fits → find_local ls v.name ≡ None → StepHolds u w ls (t.Local n f x (v ∷ []))

@@ -8,7 +8,7 @@ use Rattle.small_programs.specs.Grammar.{AreTypes, IsMain, AreSteps, Spells, loc
 use Rattle.class_world.specs.declared.world.World.{World}
 use Rattle.class_world.specs.declared.world.JavaType.{JavaType}
 use Rattle.class_world.specs.declared.world.JavaType.TheVariants as ty
-use Rattle.class_world.specs.Subtypes.{Subtype}
+use Rattle.class_world.specs.Subclasses.{Subclass}
 use Rattle.class_world.specs.Members.{IsChosen}
 use Rattle.class_world.proofs.Chains.{same_number}
 use Rattle.java_typing.specs.declared.table.Use.{Use}
@@ -67,7 +67,7 @@ module _ (typed : ℕ → JavaType → Type 0) (used : ℕ → Use → Type 0) (
     pub fresh : find_local ls v ≡ None
     pub right : ℕ
     pub value : HasClass typed used u w ls e right
-    pub fits : Subtype w (ty.Class right []) (ty.Class left [])
+    pub fits : Subclass w (ty.Class right []) (ty.Class left [])
 
   -- what the typing of `x = e;` says, n being the node of the assignment and k that of `x`
   pub record AssignSays (x : Name) (e : Expr) (n k : ℕ) : Type 0 where
@@ -76,7 +76,7 @@ module _ (typed : ℕ → JavaType → Type 0) (used : ℕ → Use → Type 0) (
     pub has : typed n (ty.Class left [])
     pub right : ℕ
     pub value : HasClass typed used u w ls e right
-    pub fits : Subtype w (ty.Class right []) (ty.Class left [])
+    pub fits : Subclass w (ty.Class right []) (ty.Class left [])
 
   -- what the typing of `x.m();` says, n being the node of the call and k that of `x`
   pub record CallSays (x m : Name) (n k : ℕ) : Type 0 where

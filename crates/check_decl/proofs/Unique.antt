@@ -7,7 +7,7 @@ use Rattle.java_grammar.specs.declared.token.Tok.{Tok}
 use Rattle.small_programs.specs.Nodes.{stmt_nodes}
 use Rattle.small_programs.specs.Grammar.{AreSteps, IsStep, Spells, local_at, assign_at, call_at, name_expr, name_at}
 use Rattle.class_world.specs.declared.world.JavaType.TheVariants as ty
-use Rattle.class_world.specs.Subtypes.{IsClassTree}
+use Rattle.class_world.specs.Subclasses.{IsClassTree}
 use Rattle.class_world.specs.Members.{AreApart, IsChosen}
 use Rattle.class_world.proofs.Chains.{same_number}
 use Rattle.class_world.proofs.Chosen.{chosen_one}

@@ -12,7 +12,7 @@ use Rattle.class_world.specs.declared.world.World.{World}
 use Rattle.class_world.specs.declared.world.JavaType.{JavaType, out-JavaType}
 use Rattle.class_world.specs.declared.world.JavaType.TheVariants as ty
 use Rattle.class_world.specs.declared.world.JavaType.TheOpen as f
-use Rattle.class_world.specs.Subtypes.{Subtype}
+use Rattle.class_world.specs.Subclasses.{Subclass}
 use Rattle.class_world.specs.Members.{IsChosen}
 use Rattle.class_world.proofs.Chains.{same_number}
 use Rattle.java_typing.specs.WorldOf.{world_of}
@@ -53,10 +53,10 @@ module _ (u : SourceUnit) (w : World) (ls : List Local) where
 
   -- an assignment is right exactly if the value's class is below the variable's
   pub assign_decided : (n m : Node) (x : Name) (e : Expr) (c d : ℕ) (r : Bool) → IsClassOf u w ls (t.Name m x) (Some c) → IsClassOf u w ls e (Some d)
-      → IsTrue r ↔ Subtype w (ty.Class d []) (ty.Class c []) → IsTrue r ↔ PerformHolds u w ls (t.Assign n None (t.Name m x) e)
+      → IsTrue r ↔ Subclass w (ty.Class d []) (ty.Class c []) → IsTrue r ↔ PerformHolds u w ls (t.Assign n None (t.Name m x) e)
   assign_decided n m x e c d r to from below = (
     λ right. (c, to.0, tt, d, from.0, below.0 right),
-    λ h. below.1 (subst (λ d. Subtype w (ty.Class d []) (ty.Class c [])) (from.1 h.3 h.4) (subst (λ c. Subtype w (ty.Class h.3 []) (ty.Class c [])) (to.1 h.0 h.1) h.5)),
+    λ h. below.1 (subst (λ d. Subclass w (ty.Class d []) (ty.Class c [])) (from.1 h.3 h.4) (subst (λ c. Subclass w (ty.Class h.3 []) (ty.Class c [])) (to.1 h.0 h.1) h.5)),
   )
 
   pub call_with_arguments : (n : Node) (e : Expr) (m : Name) (xs : List declared_expr.Expr) → (xs ≡ [] → ⊥) → PerformHolds u w ls (t.Call n (t.AnExpr e) m (plains xs)) → ⊥

@@ -5,7 +5,7 @@ ghost use Rattle.java_tree.specs.Plain as t;
 ghost use Rattle.java_grammar.specs.declared.token.Tok as toks;
 ghost use Rattle.small_programs.specs.Grammar.{Spells};
 ghost use Rattle.class_world.specs.declared.world.World as worlds;
-ghost use Rattle.class_world.specs.Subtypes.{IsClassTree};
+ghost use Rattle.class_world.specs.Subclasses.{IsClassTree};
 ghost use Rattle.class_world.specs.Members.{AreApart};
 ghost use Rattle.java_typing.specs.Main.{before_last, main_steps, HasStmt};
 ghost use Rattle.java_typing.specs.WorldOf.{world_of};

@@ -10,7 +10,7 @@ use Rattle.edit_writer.specs.declared.places.Place.{Place}
 use Rattle.edit_writer.specs.Places.{place_at}
 use Rattle.class_world.specs.declared.world.World.{World}
 use Rattle.class_world.specs.declared.world.JavaType.TheVariants as ty
-use Rattle.class_world.specs.Subtypes.{Subtype}
+use Rattle.class_world.specs.Subclasses.{Subclass}
 use Rattle.class_world.specs.Members.{IsChosen}
 use Rattle.java_typing.specs.Main.{main_steps, HasStmt}
 use Rattle.java_typing.specs.Typing.{step_type}
@@ -58,7 +58,7 @@ pub record DoesNotFit (u : SourceUnit) (w : World) (x : Local) (target : ℕ) (v
   pub declared : Declares u to
   pub other : to.name ≡ x.name → ⊥
   pub flows : FlowsTo u to.name (t.Name value x.name)
-  pub misfit : Subtype w (ty.Class target []) (ty.Class to.ty []) → ⊥
+  pub misfit : Subclass w (ty.Class target []) (ty.Class to.ty []) → ⊥
 
 -- the kinds of constraints on a local of main
 pub data CKind : Type 0 where
@@ -82,7 +82,7 @@ AllAnswered u w x target = (stmt call receiver : Node) (m : Name)
 -- ASSIGN is met: where the local flows to another, the new type is below the other's
 abbrev pub AllFit : SourceUnit → World → Local → ℕ → Type 0
 AllFit u w x target = (to : Local) (value : Node) → Declares u to → (to.name ≡ x.name → ⊥) → FlowsTo u to.name (t.Name value x.name)
-    → Subtype w (ty.Class target []) (ty.Class to.ty [])
+    → Subclass w (ty.Class target []) (ty.Class to.ty [])
 
 abbrev pub AreMet : SourceUnit → World → Local → ℕ → Type 0
 AreMet u w x target = AllAnswered u w x target × AllFit u w x target

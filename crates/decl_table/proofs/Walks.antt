@@ -12,7 +12,7 @@ use Rattle.class_world.specs.declared.world.TypeInfo.{TypeInfo}
 use Rattle.class_world.specs.declared.world.JavaType.{out-JavaType}
 use Rattle.class_world.specs.declared.world.JavaType.TheVariants as ty
 use Rattle.class_world.specs.declared.world.JavaType.TheOpen as f
-use Rattle.class_world.specs.Subtypes.{Subtype, same, direct, through, IsBelow, IsClassTree}
+use Rattle.class_world.specs.Subclasses.{Subclass, same, direct, through, IsBelow, IsClassTree}
 use Rattle.decl_table.specs.Numbered.{IsSuperclass, HaveSingleSupers, IsNumbered}
 
 -- ---- a class has one superclass
@@ -247,7 +247,7 @@ above_itself w old marks start at last n p h = ⊎_elim
     (cases_lt (mark marks at) n)
   where
     -- from each class of the walk the way goes on to where it is
-    comes : (k c : ℕ) → last < mark marks c → n ≤ mark marks c + k → Subtype w (ty.Class c []) (ty.Class at [])
+    comes : (k c : ℕ) → last < mark marks c → n ≤ mark marks c + k → Subclass w (ty.Class c []) (ty.Class at [])
     comes zero c new near = direct (p.above c new (omega (arith, p.walked.within c)))
     comes (suc k) c new near = ⊎_elim
         (λ lower. let up = p.walked.next c new lower in through (direct up.1) (comes k up.0 (omega (arith, up.2)) (omega (arith, up.2))))

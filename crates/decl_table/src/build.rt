@@ -4,7 +4,7 @@ ghost use Rattle.std.specs.Prelude.{◌≡◌, ◌<◌, ◌≤◌, ◌^◌, ℕ,
 ghost use Rattle.java_tree.specs.Plain as plain;
 ghost use Rattle.java_tree.specs.View.{decl_plain, unit_plain};
 ghost use Rattle.class_world.specs.Members.{AreApart};
-ghost use Rattle.class_world.specs.Subtypes.{IsClassTree};
+ghost use Rattle.class_world.specs.Subclasses.{IsClassTree};
 ghost use Rattle.class_world.specs.Tables.{Indexes};
 ghost use Rattle.java_typing.specs.WorldOf.{world_of, superclass_of};
 ghost use Rattle.java_typing.specs.Declarations as rule;
@@ -68,6 +68,7 @@ fn make_world(
         methods: method_infos(alloc, unit, classes)?,
         fields: Items::new(alloc),
         walk: None,
+        above: Items::new(alloc),
     }))
 }
 

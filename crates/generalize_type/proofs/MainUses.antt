@@ -10,7 +10,7 @@ use Rattle.small_programs.proofs.Places.{here}
 use Rattle.small_programs.proofs.TokenLemmas.{within}
 use Rattle.class_world.specs.declared.world.World.{World}
 use Rattle.class_world.specs.declared.world.JavaType.TheVariants as ty
-use Rattle.class_world.specs.Subtypes.{Subtype}
+use Rattle.class_world.specs.Subclasses.{Subclass}
 use Rattle.class_world.specs.Names.{IsFlagged, FlagsNames}
 use Rattle.java_typing.specs.Main.{main_steps, HasStmt}
 use Rattle.tree_edit.proofs.Standing.{place_of, begins}
@@ -120,7 +120,7 @@ module _ (names : List (List ℕ)) (text : List ℕ) (u : SourceUnit) (w : World
     test_on : (x : Local) (n : Node) (k : UseKind) → fails x.name members misfits k ≡ true → is_unmet x.name members misfits (record { node = n; name = x.name; kind = k }) ≡ true
     test_on x n k fail = ap (λ b. b && fails x.name members misfits k) (is_number x.name.0 x.name.0 refl) ∙ fail
 
-    flow_fails : (x : Local) (y : Name) (d : Local) → Declares u d → (d.name ≡ x.name → ⊥) → (Subtype w (ty.Class target []) (ty.Class d.ty []) → ⊥) → y ≡ d.name
+    flow_fails : (x : Local) (y : Name) (d : Local) → Declares u d → (d.name ≡ x.name → ⊥) → (Subclass w (ty.Class target []) (ty.Class d.ty []) → ⊥) → y ≡ d.name
         → fails x.name members misfits (Flow y) ≡ true
     flow_fails x y d declared other misfit same =
         let apart : (y.0 == x.name.0) ≡ false = other_number y.0 x.name.0 (λ e. other (sym same ∙ one_name y x.name e)) in

@@ -9,7 +9,7 @@ use Rattle.java_tree.specs.View.{stmts_plain}
 use Rattle.class_world.specs.declared.world.World.{World}
 use Rattle.class_world.specs.declared.world.TypeInfo.{TypeInfo}
 use Rattle.class_world.specs.declared.world.JavaType.TheVariants as ty
-use Rattle.class_world.specs.Subtypes.{Subtype}
+use Rattle.class_world.specs.Subclasses.{Subclass}
 use Rattle.class_world.specs.Names.{IsFlagged}
 use Rattle.java_typing.specs.Main.{main_steps}
 use Rattle.constraint_terms.specs.Question.{Local, Declares}
@@ -24,17 +24,17 @@ use Rattle.generalize_type.proofs.Main.{has_type, declares, type_named, local_na
 module _ (names : List (List ℕ)) (text : List ℕ) (u : SourceUnit) (w : World) (given : IsGiven names text u w) (target : ℕ) where
   module _ (above : List Bool) (flags_above : FlagsAbove w target (replicate (length names) false) above) where
     -- the flag of a type's name tells whether the type is above
-    above_type : (c : ℕ) (info : TypeInfo) → slice_get w.types c ≡ Some info → is_set above info.name.0 ≡ true → Subtype w (ty.Class target []) (ty.Class c [])
+    above_type : (c : ℕ) (info : TypeInfo) → slice_get w.types c ≡ Some info → is_set above info.name.0 ≡ true → Subclass w (ty.Class target []) (ty.Class c [])
     above_type c info there set =
         let low : info.name.0 < length (replicate (length names) false) = omega (arith, type_named names text u w given c info there, length-replicate (length names) false) in
         elim ((flags_above info.name.0 low).0 (is_flagged above info.name.0 set)) [
           | inl none ↦ absurd (none_flagged (length names) info.name.0 none)
           | inr b ↦
               let same : b.0 ≡ c = given.declarations.differ b.0 c b.1.0 info b.1.1 there (ap (λ n. record { 0 = n }) b.1.2) in
-              subst (λ d. Subtype w (ty.Class target []) (ty.Class d [])) same b.2
+              subst (λ d. Subclass w (ty.Class target []) (ty.Class d [])) same b.2
         ]
 
-    not_above : (c : ℕ) (info : TypeInfo) → slice_get w.types c ≡ Some info → is_set above info.name.0 ≡ false → Subtype w (ty.Class target []) (ty.Class c []) → ⊥
+    not_above : (c : ℕ) (info : TypeInfo) → slice_get w.types c ≡ Some info → is_set above info.name.0 ≡ false → Subclass w (ty.Class target []) (ty.Class c []) → ⊥
     not_above c info there clear below =
         let low : info.name.0 < length (replicate (length names) false) = omega (arith, type_named names text u w given c info there, length-replicate (length names) false) in
         not_flagged above info.name.0 clear ((flags_above info.name.0 low).1 (inr (c, (info, there, refl), below)))
@@ -46,7 +46,7 @@ module _ (names : List (List ℕ)) (text : List ℕ) (u : SourceUnit) (w : World
     abbrev after : List Bool
     after = misfits_after above (reads written_local (main_steps u)) zeros
 
-    misfit : (n : ℕ) → IsFlagged after n → (to : Local) × Declares u to × (to.name.0 ≡ n) × (Subtype w (ty.Class target []) (ty.Class to.ty []) → ⊥)
+    misfit : (n : ℕ) → IsFlagged after n → (to : Local) × Declares u to × (to.name.0 ≡ n) × (Subclass w (ty.Class target []) (ty.Class to.ty []) → ⊥)
     misfit n set = elim (flagged_by above (main_steps u) zeros n set) [
       | inl none ↦ absurd (none_flagged (length names) n none)
       | inr h ↦
@@ -60,7 +60,7 @@ module _ (names : List (List ℕ)) (text : List ℕ) (u : SourceUnit) (w : World
           )
     ]
 
-    fits : (to : Local) → Declares u to → (IsFlagged after to.name.0 → ⊥) → Subtype w (ty.Class target []) (ty.Class to.ty [])
+    fits : (to : Local) → Declares u to → (IsFlagged after to.name.0 → ⊥) → Subclass w (ty.Class target []) (ty.Class to.ty [])
     fits to d clear = by_test (is_set above at.local.ty.0) refl
       where
         at : IsWritten names text u w given to
@@ -72,7 +72,7 @@ module _ (names : List (List ℕ)) (text : List ℕ) (u : SourceUnit) (w : World
         low : at.local.name.0 < length zeros
         low = omega (arith, local_named names text u w given at.stmt at.local at.has at.is, length-replicate (length names) false)
 
-        by_test : (b : Bool) → is_set above at.local.ty.0 ≡ b → Subtype w (ty.Class target []) (ty.Class to.ty [])
+        by_test : (b : Bool) → is_set above at.local.ty.0 ≡ b → Subclass w (ty.Class target []) (ty.Class to.ty [])
         by_test true test = above_type to.ty at.info at.there (ap (is_set above) same_name ∙ test)
         by_test false test =
             let set = misfit_flagged above (main_steps u) zeros at.stmt at.local at.has at.is test low in

@@ -12,7 +12,7 @@ use Rattle.java_tree.specs.Plain.{Stmt, Stmts}
 use Rattle.class_world.specs.declared.world.World.{World}
 use Rattle.class_world.specs.declared.world.JavaType.{JavaType}
 use Rattle.class_world.specs.declared.world.JavaType.TheVariants as ty
-use Rattle.class_world.specs.Subtypes.{Subtype, same, direct, through, IsDirectSuper, IsClassTree}
+use Rattle.class_world.specs.Subclasses.{Subclass, same, direct, through, IsDirectSuper, IsClassTree}
 use Rattle.class_world.specs.Names.{IsFlagged}
 use Rattle.class_world.proofs.Chains.{class_step, one_superclass}
 use Rattle.java_typing.specs.Main.{HasStmt}
@@ -25,11 +25,11 @@ use Rattle.generalize_type.proofs.Firsts.{reads}
 
 -- the flags on the way from c, after those of `at` are set
 pub record HasFlagged (w : World) (c at : ℕ) (old flags : List Bool) : Type 0 where
-  pub from : Subtype w (ty.Class c []) (ty.Class at [])
+  pub from : Subclass w (ty.Class c []) (ty.Class at [])
   pub sound : (n : ℕ) → n < length old → IsFlagged flags n → IsFlagged old n ⊎ IsBelowNamed w c n
   pub kept : (n : ℕ) → n < length old → IsFlagged old n → IsFlagged flags n
-  pub all : (n : ℕ) → n < length old → (d : ℕ) → IsNamed w d n → Subtype w (ty.Class c []) (ty.Class d [])
-      → IsFlagged flags n ⊎ ((p : ℕ) × IsDirectSuper w at (ty.Class p []) × Subtype w (ty.Class p []) (ty.Class d []))
+  pub all : (n : ℕ) → n < length old → (d : ℕ) → IsNamed w d n → Subclass w (ty.Class c []) (ty.Class d [])
+      → IsFlagged flags n ⊎ ((p : ℕ) × IsDirectSuper w at (ty.Class p []) × Subclass w (ty.Class p []) (ty.Class d []))
 
 pub flagged_first : (w : World) → IsClassTree w → (c : ℕ) (old flags : List Bool) → FlagsClass w c old flags → HasFlagged w c c old flags
 flagged_first w tree c old flags sets = record {
@@ -51,7 +51,7 @@ flagged_up w tree c at p old flags new size h super sets = record {
   all = λ n lt d named below. elim (h.all n lt d named below) [
     | inl set ↦ inl ((sets n (within n lt)).1 (inl set))
     | inr k ↦
-        let up = subst (λ q. Subtype w (ty.Class q []) (ty.Class d [])) (one_superclass w tree at k.0 p k.1 super) k.2 in
+        let up = subst (λ q. Subclass w (ty.Class q []) (ty.Class d [])) (one_superclass w tree at k.0 p k.1 super) k.2 in
         elim (class_step w tree p d up) [
           | inl e ↦ inl ((sets n (within n lt)).1 (inr (subst (λ x. IsNamed w x n) (sym e) named)))
           | inr more ↦ inr more

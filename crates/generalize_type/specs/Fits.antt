@@ -4,7 +4,7 @@ use Rattle.java_tree.specs.Plain.{SourceUnit}
 use Rattle.class_world.specs.declared.world.World.{World}
 use Rattle.class_world.specs.declared.world.TypeInfo.{TypeInfo}
 use Rattle.class_world.specs.declared.world.JavaType.TheVariants as ty
-use Rattle.class_world.specs.Subtypes.{Subtype}
+use Rattle.class_world.specs.Subclasses.{Subclass}
 use Rattle.class_world.specs.Names.{IsFlagged}
 use Rattle.constraint_terms.specs.Question.{Local, Declares}
 use Rattle.generalize_type.specs.declared.locals.WrittenLocal.{WrittenLocal}
@@ -18,7 +18,7 @@ IsNamed w c n = (info : TypeInfo) × (slice_get w.types c ≡ Some info) × (inf
 
 -- the class is one of this name, or below one
 abbrev pub IsBelowNamed : World → ℕ → ℕ → Type 0
-IsBelowNamed w c n = (d : ℕ) × IsNamed w d n × Subtype w (ty.Class c []) (ty.Class d [])
+IsBelowNamed w c n = (d : ℕ) × IsNamed w d n × Subclass w (ty.Class c []) (ty.Class d [])
 
 -- the flags after that of a class's name is set
 abbrev pub FlagsClass : World → ℕ → List Bool → List Bool → Type 0
@@ -36,5 +36,5 @@ misfits_after above (x ∷ xs) flags = misfits_after above xs (if is_set above x
 -- of the names below `names`, those of main's locals whose types the class is not below have a flag, and no others
 pub record AreMisfits (u : SourceUnit) (w : World) (target names : ℕ) (flags : List Bool) : Type 0 where
   pub size : length flags ≡ names
-  pub misfit : (n : ℕ) → IsFlagged flags n → (to : Local) × Declares u to × (to.name.0 ≡ n) × (Subtype w (ty.Class target []) (ty.Class to.ty []) → ⊥)
-  pub fits : (to : Local) → Declares u to → (IsFlagged flags to.name.0 → ⊥) → Subtype w (ty.Class target []) (ty.Class to.ty [])
+  pub misfit : (n : ℕ) → IsFlagged flags n → (to : Local) × Declares u to × (to.name.0 ≡ n) × (Subclass w (ty.Class target []) (ty.Class to.ty []) → ⊥)
+  pub fits : (to : Local) → Declares u to → (IsFlagged flags to.name.0 → ⊥) → Subclass w (ty.Class target []) (ty.Class to.ty [])

@@ -2,7 +2,7 @@
 
 ghost use Rattle.std.specs.Prelude.{◌≡◌, ℕ, List, true, length, slice_set, IfOk};
 ghost use Rattle.java_tree.specs.View.{unit_plain};
-ghost use Rattle.class_world.specs.Subtypes.{IsClassTree};
+ghost use Rattle.class_world.specs.Subclasses.{IsClassTree};
 ghost use Rattle.generalize_type.specs.Steps.{locals_in};
 ghost use Rattle.generalize_type.specs.Given.{IsGiven};
 ghost use Rattle.generalize_type.specs.Fits.{is_set, FlagsClass, FlagsAbove, misfits_after, AreMisfits};

@@ -10,7 +10,7 @@ use Rattle.class_world.specs.declared.world.MethodInfo.{MethodInfo}
 use Rattle.class_world.specs.declared.world.JavaType.{JavaType, out-JavaType}
 use Rattle.class_world.specs.declared.world.JavaType.TheVariants as ty
 use Rattle.class_world.specs.declared.world.JavaType.TheOpen as f
-use Rattle.class_world.specs.Subtypes.{Subtype, IsClassTree}
+use Rattle.class_world.specs.Subclasses.{Subclass, IsClassTree}
 use Rattle.class_world.specs.Members.{AreApart, IsChosen}
 use Rattle.class_world.specs.Lookup.{AreLookups, IsLookup, first}
 use Rattle.class_world.proofs.Chosen.{chosen_one, chosen_below, chosen_declared}
@@ -39,7 +39,7 @@ pub record HasObject (w : World) (heap : List Thing) (frame : List Held) (n : �
   pub known : class_held hs x ≡ Some class
   pub holds : held node frame ≡ Some (v.Ref number)
   pub there : slice_get heap number ≡ Some (state.Object class [])
-  pub fits : Subtype w (ty.Class class []) (ty.Class owner [])
+  pub fits : Subclass w (ty.Class class []) (ty.Class owner [])
 
 -- Each local but main's parameter holds an object of a class below its own, and no two of them have one node.
 pub record Fits (w : World) (heap : List Thing) (frame : List Held) (n : ℕ) (ls : List Local) (hs : List Holds) : Type 0 where
@@ -97,7 +97,7 @@ module _ (w : World) (heap : List Thing) (frame : List Held) (n m : ℕ) (hs : L
   abbrev holds_then : List Holds
   holds_then = record { name = x; class = c } ∷ hs
 
-  stored_here : (y : Name) (owner at : ℕ) → (x.0 == y.0) ≡ true → node ≡ at → at < m → Subtype w (ty.Class c []) (ty.Class owner []) → HasObject w heap frame_then m holds_then y at owner
+  stored_here : (y : Name) (owner at : ℕ) → (x.0 == y.0) ≡ true → node ≡ at → at < m → Subclass w (ty.Class c []) (ty.Class owner []) → HasObject w heap frame_then m holds_then y at owner
   stored_here y owner at name same lt below = record {
     class = c;
     number = k;
@@ -122,7 +122,7 @@ module _ (w : World) (heap : List Thing) (frame : List Held) (n m : ℕ) (hs : L
       }
 
   -- a local is declared
-  pub fits_declared : (ls : List Local) (l : Local) (owner : ℕ) → l.name ≡ x → l.node ≡ node → l.ty ≡ ty.Class owner [] → n ≤ node → node < m → Subtype w (ty.Class c []) (ty.Class owner [])
+  pub fits_declared : (ls : List Local) (l : Local) (owner : ℕ) → l.name ≡ x → l.node ≡ node → l.ty ≡ ty.Class owner [] → n ≤ node → node < m → Subclass w (ty.Class c []) (ty.Class owner [])
       → Fits w heap frame n ls hs → Fits w heap frame_then m (l ∷ ls) holds_then
   fits_declared ls l owner name here class le lt below fits = record {
     objects = λ y q d found of. object y q d (l.name.0 == y.0) refl found of;
@@ -137,7 +137,7 @@ module _ (w : World) (heap : List Thing) (frame : List Held) (n m : ℕ) (hs : L
           let one : l ≡ q = same_Some l q found in
           let at : node ≡ q.node = sym here ∙ ap (λ (l : Local). l.node) one in
           let own : ty.Class owner [] ≡ ty.Class d [] = sym class ∙ ap (λ (l : Local). l.ty) one ∙ sym of in
-          stored_here y d q.node (test y true e) at (omega arith) (subst (λ t. Subtype w (ty.Class c []) t) own below)
+          stored_here y d q.node (test y true e) at (omega arith) (subst (λ t. Subclass w (ty.Class c []) t) own below)
       object y q d false e found of =
           let o = fits.objects y q d found of in
           let low = o.before in
@@ -157,7 +157,7 @@ module _ (w : World) (heap : List Thing) (frame : List Held) (n m : ℕ) (hs : L
       two y z q p d e false false f f' found of found' of' same = fits.apart y z q p d e found of found' of' same
 
   -- a local is assigned
-  pub fits_assigned : (ls : List Local) (l : Local) (owner : ℕ) → find_local ls x ≡ Some l → ty.Class owner [] ≡ l.ty → l.node ≡ node → n ≤ m → Subtype w (ty.Class c []) (ty.Class owner [])
+  pub fits_assigned : (ls : List Local) (l : Local) (owner : ℕ) → find_local ls x ≡ Some l → ty.Class owner [] ≡ l.ty → l.node ≡ node → n ≤ m → Subclass w (ty.Class c []) (ty.Class owner [])
       → Fits w heap frame n ls hs → Fits w heap frame_then m ls holds_then
   fits_assigned ls l owner is class here le below fits = record {
     objects = λ y q d found of. object y q d (x.0 == y.0) refl found of;
@@ -171,7 +171,7 @@ module _ (w : World) (heap : List Thing) (frame : List Held) (n m : ℕ) (hs : L
           let at : node ≡ q.node = sym here ∙ ap (λ (l : Local). l.node) one in
           let own : ty.Class owner [] ≡ ty.Class d [] = class ∙ ap (λ (l : Local). l.ty) one ∙ sym of in
           let low = (fits.objects y q d found of).before in
-          stored_here y d q.node e at (omega arith) (subst (λ t. Subtype w (ty.Class c []) t) own below)
+          stored_here y d q.node e at (omega arith) (subst (λ t. Subclass w (ty.Class c []) t) own below)
       object y q d false e found of =
           let other : x.0 ≡ y.0 → ⊥ = grind (arith, nat_tests) in
           stored_else y d q.node e (λ f. other (fits.apart x y l q owner d is class found of (here ∙ f))) le (fits.objects y q d found of)
@@ -185,7 +185,7 @@ pub record Entered (w : World) (pick : ℕ → Name → Option ℕ) (find : ℕ 
   pub found : find m c ≡ Some number
 
 pub entered : (w : World) (tree : IsClassTree w) (apart : AreApart w) (pick : ℕ → Name → Option ℕ) (find : ℕ → ℕ → Option ℕ) → ArePicks w pick → AreLookups w find
-    → (c owner : ℕ) (name : Name) (m : ℕ) → Subtype w (ty.Class c []) (ty.Class owner []) → IsChosen w owner name m → Entered w pick find c name m
+    → (c owner : ℕ) (name : Name) (m : ℕ) → Subclass w (ty.Class c []) (ty.Class owner []) → IsChosen w owner name m → Entered w pick find c name m
 entered w tree apart pick find picks lookups c owner name m below chosen =
     let own = chosen_below w c owner name m tree below chosen in
     let k : ℕ = own.0 in

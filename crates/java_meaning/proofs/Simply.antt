@@ -10,7 +10,7 @@ use Rattle.small_programs.specs.Grammar.{AreSteps, IsStep, Spells, local_at, ass
 use Rattle.class_world.specs.declared.world.World.{World}
 use Rattle.class_world.specs.declared.world.MethodInfo.{MethodInfo}
 use Rattle.class_world.specs.declared.world.JavaType.TheVariants as ty
-use Rattle.class_world.specs.Subtypes.{Subtype, same as itself, through, IsClassTree}
+use Rattle.class_world.specs.Subclasses.{Subclass, same as itself, through, IsClassTree}
 use Rattle.class_world.specs.Members.{AreApart}
 use Rattle.class_world.specs.Lookup.{AreLookups}
 use Rattle.java_typing.specs.Main.{main_method, main_steps, params_of}
@@ -74,7 +74,7 @@ module _ (names : List (List ℕ)) (text : List ℕ) (ts : List Tok) (u : Source
 
   -- what is left to show where an expression gave an object of a class below this one
   abbrev Given : ℕ → ℕ → ℕ → List Local → List Holds → State → Thing → (Value → State → Outcome (Unit {0})) → (ℕ → Ran → Course) → Type 0
-  Given d n owner ls hs s x F G = (c k : ℕ) (heap : List Thing) (r : Ran) → slice_get heap k ≡ Some (state.Object c []) → Subtype (world_of u) (ty.Class c []) (ty.Class owner [])
+  Given d n owner ls hs s x F G = (c k : ℕ) (heap : List Thing) (r : Ran) → slice_get heap k ≡ Some (state.Object c []) → Subclass (world_of u) (ty.Class c []) (ty.Class owner [])
       → Fits (world_of u) heap s.frame n ls hs → slice_get heap 0 ≡ Some x → r.left ≤ d → Meets (G c r) (F (v.Ref k) (put (record s { heap = heap }) r))
 
   gives_meet : (e : Expr) (n d owner : ℕ) (ls : List Local) (hs : List Holds) (s : State) (r : Ran) (x : Thing) (F : Value → State → Outcome (Unit {0})) (G : ℕ → Ran → Course)
@@ -100,14 +100,14 @@ module _ (names : List (List ℕ)) (text : List ℕ) (ts : List Tok) (u : Source
       ∙ ap (λ o. and_then o (λ done s. Gives (v.Ref q) s)) (constructed u tree none g same worlds all (length w.types) d c k (v.Ref q) new r le (tree.small c) (step_own u y c is) made) in
       met _ _ _ _ (ap (λ o. goes_with o r (λ c. go_on (constructs (length w.types) w c r) (λ r. G c r))) is) (ap (λ o. and_then o F) runs)
       (made_meets (constructs (length w.types) w c r) q new F (λ r. G c r) d (constructs_within w (length w.types) c d r le)
-      (λ r le. next c q new.heap r (ap (slice_get new.heap) last ∙ behind s.heap (object ∷ []) 0) (subst (λ a. Subtype w (ty.Class c []) a) (sym of) itself)
+      (λ r le. next c q new.heap r (ap (slice_get new.heap) last ∙ behind s.heap (object ∷ []) 0) (subst (λ a. Subclass w (ty.Class c []) a) (sym of) itself)
       (grown w s.heap (object ∷ []) s.frame n n ls hs (omega arith) fits) (left s.heap (object ∷ []) 0 x there) le))
   gives_meet _ n d owner ls hs s r x F G has fits there le next = absurd has
 
   -- a local gets the object that an expression gives
   stores_meet : (e : Expr) (name : Name) (xs : Stmts) (node n m d owner : ℕ) (ls ls' : List Local) (hs : List Holds) (s : State) (r : Ran) (x : Thing)
       → HasClass (Typed g.notes) (Used g.notes) u (world_of u) ls e owner → Fits (world_of u) s.heap s.frame n ls hs → slice_get s.heap 0 ≡ Some x → r.left ≤ d
-      → ((c k : ℕ) (heap : List Thing) → slice_get heap k ≡ Some (state.Object c []) → Subtype (world_of u) (ty.Class c []) (ty.Class owner []) → Fits (world_of u) heap s.frame n ls hs
+      → ((c k : ℕ) (heap : List Thing) → slice_get heap k ≡ Some (state.Object c []) → Subclass (world_of u) (ty.Class c []) (ty.Class owner []) → Fits (world_of u) heap s.frame n ls hs
       → Fits (world_of u) heap (record { node = node; value = v.Ref k } ∷ s.frame) m ls' (record { name = name; class = c } ∷ hs))
       → Behind d m ls' xs
       → Meets (gives u (world_of u) (Some e) hs r (λ c r. steps_run u (world_of u) pick xs (record { name = name; class = c } ∷ hs) r))

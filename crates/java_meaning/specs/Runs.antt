@@ -15,7 +15,7 @@ use Rattle.decl_table.specs.Built.{IsBuilt}
 use Rattle.java_meaning.specs.Outcome.{Outcome, Gives, Threw, Bound}
 use Rattle.class_world.specs.declared.world.World.{World}
 use Rattle.class_world.specs.declared.world.TypeInfo.{TypeInfo}
-use Rattle.class_world.specs.Subtypes.{IsClassTree}
+use Rattle.class_world.specs.Subclasses.{IsClassTree}
 use Rattle.class_world.specs.Tables.{Indexes}
 use Rattle.decl_table.specs.Classes.{Numbers}
 use Rattle.java_meaning.specs.Meaning as meaning

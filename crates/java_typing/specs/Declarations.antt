@@ -6,7 +6,7 @@ use Rattle.java_tree.specs.Plain.{TypeDecl, SourceUnit}
 use Rattle.class_world.specs.declared.world.World.{World}
 use Rattle.class_world.specs.declared.world.TypeInfo.{TypeInfo}
 use Rattle.class_world.specs.declared.world.MethodInfo.{MethodInfo}
-use Rattle.class_world.specs.Subtypes.{IsBelow}
+use Rattle.class_world.specs.Subclasses.{IsBelow}
 use Rattle.class_world.specs.Members.{AreApart}
 use Rattle.java_typing.specs.WorldOf.{superclass_of}
 

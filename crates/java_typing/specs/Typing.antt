@@ -7,7 +7,7 @@ use Rattle.class_world.specs.declared.world.World.{World}
 use Rattle.class_world.specs.declared.world.MethodInfo.{MethodInfo}
 use Rattle.class_world.specs.declared.world.JavaType.{JavaType}
 use Rattle.class_world.specs.declared.world.JavaType.TheVariants as ty
-use Rattle.class_world.specs.Subtypes.{Subtype}
+use Rattle.class_world.specs.Subclasses.{Subclass}
 use Rattle.class_world.specs.Members.{IsChosen}
 use Rattle.java_typing.specs.declared.table.Use.{Use}
 use Rattle.java_typing.specs.declared.table.Use.TheVariants as use_of
@@ -62,13 +62,13 @@ module _ (typed : ℕ → JavaType → Type 0) (used : ℕ → Use → Type 0) (
   -- T58: the assigned value's type is below the variable's, which is the assignment's type.
   abbrev pub IsPerformed : List Local → Expr → Type 0
   IsPerformed ls (t.Assign n None (t.Name m x) e) =
-      (c : ℕ) × HasClass ls (t.Name m x) c × typed n.id (ty.Class c []) × (d : ℕ) × HasClass ls e d × Subtype w (ty.Class d []) (ty.Class c [])
+      (c : ℕ) × HasClass ls (t.Name m x) c × typed n.id (ty.Class c []) × (d : ℕ) × HasClass ls e d × Subclass w (ty.Class d []) (ty.Class c [])
   IsPerformed ls e = IsCallTyped ls e
 
   -- T4: the initialiser's type is below the local's. T5: the name is new in its scope.
   abbrev pub IsStmtTyped : List Local → Stmt → Type 0
   IsStmtTyped ls (t.Local n f x (v ∷ [])) =
-      (c : ℕ) × (step_type u x ≡ Some c) × (find_local ls v.name ≡ None) × (e : Expr) × (v.init ≡ Some e) × (d : ℕ) × HasClass ls e d × Subtype w (ty.Class d []) (ty.Class c [])
+      (c : ℕ) × (step_type u x ≡ Some c) × (find_local ls v.name ≡ None) × (e : Expr) × (v.init ≡ Some e) × (d : ℕ) × HasClass ls e d × Subclass w (ty.Class d []) (ty.Class c [])
   IsStmtTyped ls (t.Value n e) = IsPerformed ls e
   IsStmtTyped ls _ = ⊥
 

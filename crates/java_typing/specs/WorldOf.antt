@@ -133,4 +133,5 @@ world_of u = record {
   methods = object_constructor ∷ methods_of u 16 u.types;
   fields = [];
   walk = None;
+  above = [];
 }

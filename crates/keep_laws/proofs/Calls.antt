@@ -13,7 +13,7 @@ use Rattle.small_programs.specs.Nodes.{stmt_nodes}
 use Rattle.small_programs.specs.Grammar.{type_at, local_at, IsStep, AreSteps, Spells}
 use Rattle.class_world.specs.declared.world.World.{World}
 use Rattle.class_world.specs.declared.world.JavaType.{JavaType}
-use Rattle.class_world.specs.Subtypes.{IsClassTree}
+use Rattle.class_world.specs.Subclasses.{IsClassTree}
 use Rattle.class_world.specs.Members.{IsChosen, AreApart}
 use Rattle.class_world.proofs.Chains.{same_number}
 use Rattle.class_world.proofs.Chosen.{chosen_one}

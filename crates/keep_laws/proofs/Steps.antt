@@ -13,7 +13,7 @@ use Rattle.small_programs.specs.Nodes.{stmt_nodes}
 use Rattle.small_programs.specs.Grammar.{node_of, name_at, name_expr, type_at, new_at, local_at, assign_at, call_at, IsValue, IsStep, AreSteps, Spells}
 use Rattle.class_world.specs.declared.world.World.{World}
 use Rattle.class_world.specs.declared.world.JavaType.TheVariants as ty
-use Rattle.class_world.specs.Subtypes.{Subtype, same, direct, through, IsBelow}
+use Rattle.class_world.specs.Subclasses.{Subclass, same, direct, through, IsBelow}
 use Rattle.class_world.proofs.Chains.{same_number}
 use Rattle.java_typing.specs.Main.{main_steps, HasStmt}
 use Rattle.java_typing.specs.Typing.{Local, find_local, step_type, scope_after, HasClass, IsStmtTyped, AreTyped}
@@ -128,7 +128,7 @@ module _ (names : List (List ℕ)) (text : List ℕ) (ts : List Tok) (c : Change
     abbrev IsStillTyped : List Local → Stmt → Type 0
     IsStillTyped = IsStmtTyped (λ n a. Unit {0}) (λ n x. Unit {0}) (generalized c u) w
 
-    above : Subtype w (ty.Class x.ty []) (ty.Class target [])
+    above : Subclass w (ty.Class x.ty []) (ty.Class target [])
     above = through (direct below.1) below.2
 
     -- ---- values
@@ -193,7 +193,7 @@ module _ (names : List (List ℕ)) (text : List ℕ) (ts : List Tok) (c : Change
         still_none : find_local ms (name_at names text ts (i + 1)) ≡ None
         still_none = still_new x target ls ms alike (name_at names text ts (i + 1)) none
 
-        fits : IsX ls ms e d → Subtype w (ty.Class target []) (ty.Class k [])
+        fits : IsX ls ms e d → Subclass w (ty.Class target []) (ty.Class k [])
         fits v =
             met.1 (record { name = name_at names text ts (i + 1); head = span_of ts i (i + 1); ty = k }) v.node (declared_at n i m k e has step)
             (λ named. let found = v.old_find in cc (none, found, named)) (q.by_initialiser _ _ _ (local_var n i m e) has refl (ap Some v.name))
@@ -202,7 +202,7 @@ module _ (names : List (List ℕ)) (text : List ℕ) (ts : List Tok) (c : Change
         by_test true here (inl still) =
             let old = (local_is is n i m e has here).1 in
             let class : k ≡ x.ty = cc (step, old) in
-            let to_old = subst (λ k. Subtype w (ty.Class d []) (ty.Class k [])) class sub in
+            let to_old = subst (λ k. Subclass w (ty.Class d []) (ty.Class k [])) class sub in
             (target, step_changed c names text ts u (n + 1) i target is.named here, still_none, expr c e, refl, d, still, through to_old above)
         by_test true here (inr v) = (target, step_changed c names text ts u (n + 1) i target is.named here, still_none, expr c e, refl, target, v.still, same)
         by_test false here (inl still) = (k, step_kept c names text ts u (n + 1) i here ∙ step, still_none, expr c e, refl, d, still, sub)
@@ -214,30 +214,30 @@ module _ (names : List (List ℕ)) (text : List ℕ) (ts : List Tok) (c : Change
         by_kept (name_kept (node_of names text ts (n + 2) i (i + 1)) (name_at names text ts i) ls ms alike k (l, find, is_type, tt, tt)) (value_kept is (n + 3) (i + 2) m e value ls ms alike d types)
       where
         -- x flows to another local
-        fits : IsX ls ms e d → (name_at names text ts i ≡ x.name → ⊥) → Subtype w (ty.Class target []) (ty.Class k [])
+        fits : IsX ls ms e d → (name_at names text ts i ≡ x.name → ⊥) → Subclass w (ty.Class target []) (ty.Class k [])
         fits v other =
             let to = found_declared ls declared (name_at names text ts i) l find k (sym is_type) in
             let named : to.0.name ≡ name_at names text ts i = to.2 ∙ found_name ls (name_at names text ts i) l find in
             let flows : q.FlowsTo u (name_at names text ts i) (t.Name v.node x.name) = subst (q.FlowsTo u (name_at names text ts i)) v.name (q.by_assignment _ _ _ has) in
             let into = met.1 to.0 v.node to.1 (λ e. other (sym named ∙ e)) (subst (λ y. q.FlowsTo u y (t.Name v.node x.name)) (sym named) flows) in
-            subst (λ k. Subtype w (ty.Class target []) (ty.Class k [])) to.3 into
+            subst (λ k. Subclass w (ty.Class target []) (ty.Class k [])) to.3 into
 
         -- x flows to a local whose type does not change
         by_name : IsX ls ms e d → (m : Local) → find_local ms (name_at names text ts i) ≡ Some m → ty.Class k [] ≡ m.ty
-            → ((name_at names text ts i).0 ≡ x.name.0) ⊎ ((name_at names text ts i).0 ≡ x.name.0 → ⊥) → Subtype w (ty.Class target []) (ty.Class k [])
+            → ((name_at names text ts i).0 ≡ x.name.0) ⊎ ((name_at names text ts i).0 ≡ x.name.0 → ⊥) → Subclass w (ty.Class target []) (ty.Class k [])
         by_name v m found new_type (inl number) =
             let named : name_at names text ts i ≡ x.name = ap (λ (n : ℕ). record { 0 = n }) number in
             let new_find = v.new_find in
             let one : m ≡ v.m = cc (found, named, new_find) in
             let class : k ≡ target = (same_number k target [] [] (new_type ∙ ap (λ (l : Local). l.ty) one ∙ sym v.new)).0 in
-            subst (λ k. Subtype w (ty.Class target []) (ty.Class k [])) (sym class) same
+            subst (λ k. Subclass w (ty.Class target []) (ty.Class k [])) (sym class) same
         by_name v m found new_type (inr other) = fits v (λ e. other (ap (λ (n : Name). n.0) e))
 
         by_kept : IsKept ls ms (name_expr names text ts (n + 2) i) k → IsKept ls ms e d → IsStillTyped ms (stmt c (assign_at names text ts n i m e))
         by_kept (inl still) (inl from) = (k, still, tt, d, from, sub)
         by_kept (inl still) (inr v) = (k, still, tt, target, v.still, by_name v still.0 still.1 still.2 (cases_eq (name_at names text ts i).0 x.name.0))
         by_kept (inr to) (inl from) =
-            let to_old = subst (λ k. Subtype w (ty.Class d []) (ty.Class k [])) to.old sub in
+            let to_old = subst (λ k. Subclass w (ty.Class d []) (ty.Class k [])) to.old sub in
             (target, to.still, tt, d, from, through to_old above)
         by_kept (inr to) (inr v) = (target, to.still, tt, target, v.still, same)
 

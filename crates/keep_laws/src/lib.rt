@@ -9,7 +9,7 @@ ghost use Rattle.java_tree.specs.Plain.{SourceUnit};
 ghost use Rattle.java_grammar.specs.declared.token.Tok.{Tok};
 ghost use Rattle.small_programs.specs.Replaced.{Change};
 ghost use Rattle.small_programs.specs.Grammar.{Spells};
-ghost use Rattle.class_world.specs.Subtypes.{IsBelow, IsClassTree};
+ghost use Rattle.class_world.specs.Subclasses.{IsBelow, IsClassTree};
 ghost use Rattle.class_world.specs.Members.{AreApart};
 ghost use Rattle.java_typing.specs.Main.{main_steps, HasStmt};
 ghost use Rattle.java_typing.specs.WorldOf.{world_of};

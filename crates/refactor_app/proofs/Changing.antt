@@ -17,7 +17,7 @@ use Rattle.tree_edit.specs.Literals.{AreLiteralsKept}
 use Rattle.edit_writer.specs.declared.edits.Edit.{Edit}
 use Rattle.edit_writer.specs.Edits.{edited, AreOrdered}
 use Rattle.class_world.specs.declared.world.World.{World}
-use Rattle.class_world.specs.Subtypes.{IsBelow, IsClassTree}
+use Rattle.class_world.specs.Subclasses.{IsBelow, IsClassTree}
 use Rattle.class_world.specs.Members.{AreApart}
 use Rattle.class_world.proofs.Lookups.{lookups_exist}
 use Rattle.java_typing.specs.Correspond.{IsProgramOf}

@@ -3,7 +3,7 @@ use Rattle.std.proofs.Common.{◌≡◌, ℕ, zero, suc, ◌+◌, inl, inr, List
 use Rattle.java_tree.specs.Plain as t
 use Rattle.java_tree.specs.Plain.{Expr, Exprs, Param, Stmt, Stmts, Member, TypeDecl, SourceUnit}
 use Rattle.class_world.specs.declared.world.World.{World}
-use Rattle.class_world.specs.Subtypes.{IsClassTree}
+use Rattle.class_world.specs.Subclasses.{IsClassTree}
 use Rattle.class_world.specs.Members.{AreApart}
 use Rattle.class_world.specs.Lookup.{AreLookups}
 use Rattle.class_world.proofs.Lookups.{one_lookup, lookup_overridden}

@@ -4,7 +4,7 @@ use Rattle.java_tree.specs.Plain.{SourceUnit}
 use Rattle.java_tree.specs.View.{unit_plain, decl_plain}
 use Rattle.class_world.specs.declared.world.World.{World}
 use Rattle.class_world.specs.Members.{AreApart}
-use Rattle.class_world.specs.Subtypes.{IsClassTree}
+use Rattle.class_world.specs.Subclasses.{IsClassTree}
 use Rattle.class_world.specs.Tables.{Indexes}
 use Rattle.class_world.specs.Names.{ListsMethods}
 use Rattle.class_world.proofs.Chains.{none_below_itself}
