@@ -1,0 +1,2 @@
+//! The rules on declarations that need no types of names.
+#![tactic(auto)]
