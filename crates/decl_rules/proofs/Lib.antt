@@ -1,0 +1,4 @@
+pub mod Adding
+pub mod Steps
+pub mod Measures
+pub mod Told

@@ -1,3 +1,4 @@
 pub mod Parts
 pub mod PlainRules
 pub mod DeclaredRules
+pub mod Walk
