@@ -1,6 +1,6 @@
 use Rattle.std.proofs.Common.{arith}
 use Rattle.decl_rules.proofs.Measures.{expr_in}
-use Rattle.decl_rules.proofs.walk.+exprs.Goals as goal
+use Rattle.decl_rules.proofs.exprs.+exprs.Goals as goal
 
 pub walk_exprs-walk_expr-first-requires : goal.walk_exprs-walk_expr-first-requires
 walk_exprs-walk_expr-first-requires t c =

@@ -3,7 +3,7 @@ use Rattle.std.specs.Option.{option_map}
 use Rattle.java_tree.specs.View.{plain, plains, maybe}
 use Rattle.tree_numbers.specs.Sizes as size
 use Rattle.decl_rules.specs.Walk as spec
-use Rattle.decl_rules.proofs.walk.+exprs.Given as goal
+use Rattle.decl_rules.proofs.exprs.+exprs.Given as goal
 
 abbrev pub decreases-walk_expr : goal.decreases-walk_expr
 decreases-walk_expr l = 2 * size.expr (plain l.e.now)

@@ -1,12 +1,12 @@
-//! The walk over the written types in expressions and statements (S13, S17).
+//! The walk over the written types in expressions (S13, S17).
 
-ghost use Rattle.std.specs.Prelude.{◌≡◌, map};
+ghost use Rattle.std.specs.Prelude.{◌≡◌};
 ghost use Rattle.std.specs.Option.{option_map};
-ghost use Rattle.java_tree.specs.View.{plain, plains, maybe, type_plain, var_plain, param_plain};
+ghost use Rattle.java_tree.specs.View.{plain, plains, maybe};
 ghost use Rattle.decl_rules.specs.Walk as spec;
 
-use crate::types::{has_brackets, walk_element, walk_type};
-use java_tree::tree::{Expr, ExprForm, Param, TypeExpr, Var};
+use crate::types::{walk_element, walk_type};
+use java_tree::tree::{Expr, ExprForm};
 use java_tree::{Boxed, Items};
 use rule_order::Breach;
 
