@@ -1,12 +1,12 @@
 -- The first broken rule so far, and one more set of them.
-use Rattle.std.proofs.Common.{◌≡◌, ℕ, ◌<◌, ◌≤◌, ◌⊎◌, inl, inr, Bool, true, false, Option, Some, None, List, [], ◌∷◌, ◌++◌, ◌↔◌, refl, sym, subst, ap, ◌∙◌, arith}
-use Rattle.std.specs.Prelude.{Contains, nat_lt, nat_eq, nat_le, ◌||◌, ◌&&◌, Decides}
+use Rattle.std.proofs.Common.{◌≡◌, ℕ, ◌<◌, ◌≤◌, ◌⊎◌, inl, inr, Bool, true, false, Option, Some, None, ◌↔◌, refl, sym, subst, ap, ◌∙◌, arith}
+use Rattle.std.specs.Prelude.{nat_lt, nat_eq, nat_le, ◌||◌, ◌&&◌, Decides}
 use Rattle.std.proofs.lemmas.Bool.Decides.{nat_tests}
 use Rattle.java_tree.specs.declared.tree.Node.{Node}
 use Rattle.rule_order.specs.declared.Breach.{Breach}
 use Rattle.rule_order.specs.First.{Breaches, Either, IsBefore, IsFirst, IsEarlier}
 use Rattle.rule_order.proofs.Firsts.{first_alike, first_of_both, before_through}
-use Rattle.decl_rules.specs.Parts.{At, SomeOf, Nowhere}
+use Rattle.decl_rules.specs.Parts.{At}
 use Rattle.decl_rules.specs.Walk.{Only, Adds, is_before, choose, earlier_of, noted}
 
 pub first_only : (a : Option Breach) → IsFirst (Only a) a

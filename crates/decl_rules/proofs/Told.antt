@@ -1,5 +1,5 @@
 -- What tests on the code's trees say of the plain ones.
-use Rattle.std.proofs.Common.{◌≡◌, ℕ, Bool, true, false, List, [], ◌∷◌, map, not, ◌↔◌, refl, ◌∙◌, ap}
+use Rattle.std.proofs.Common.{◌≡◌, ℕ, Bool, true, false, List, [], ◌∷◌, map, not, ◌↔◌, refl, ap}
 use Rattle.java_tree.specs.declared.tree.TypeExpr.{TypeExpr, out-TypeExpr}
 use Rattle.java_tree.specs.View as view
 use Rattle.java_tree.specs.View.{type_plain}

@@ -8,7 +8,7 @@ use Rattle.java_tree.specs.Plain as t
 use Rattle.java_tree.specs.Plain.{TypeExpr, TypeExprs, Expr, MaybeExpr, Exprs, Var, Param, Stmt, MaybeStmt, Stmts, Group, Groups, Catch, Catches, Member, TypeDecl, SourceUnit}
 use Rattle.rule_order.specs.declared.Breach.{Breach}
 use Rattle.rule_order.specs.First.{Breaches, Either, IsFirst}
-use Rattle.decl_rules.specs.Parts.{At}
+use Rattle.decl_rules.specs.Parts.{node_of}
 
 -- ---- the first one so far
 
@@ -49,9 +49,6 @@ is_qualified _ = false
 abbrev pub has_args : TypeExpr → Bool
 has_args (t.Written n h s t.NoTypes d) = false
 has_args (t.Written n h s (t.AndType x xs) d) = true
-
-abbrev pub node_of : TypeExpr → Node
-node_of (t.Written n h s xs d) = n
 
 -- the type is an array's element type, if this is so
 abbrev pub element : Bool → Walk TypeExpr
