@@ -5,3 +5,5 @@ pub mod Told
 pub mod Lists
 pub mod Inside
 pub mod Walking
+pub mod Deciding
+pub mod Looking

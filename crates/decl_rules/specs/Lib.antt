@@ -2,3 +2,4 @@ pub mod Parts
 pub mod PlainRules
 pub mod DeclaredRules
 pub mod Walk
+pub mod Looks

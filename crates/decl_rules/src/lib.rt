@@ -3,7 +3,11 @@
 
 mod exprs;
 mod members;
+mod modifiers;
 mod noted;
+mod plain;
 mod stmts;
 mod types;
 mod vars;
+
+pub use plain::first_plain;
