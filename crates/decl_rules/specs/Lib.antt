@@ -3,3 +3,4 @@ pub mod PlainRules
 pub mod DeclaredRules
 pub mod Walk
 pub mod Looks
+pub mod DeclaredLooks

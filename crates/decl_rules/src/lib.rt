@@ -1,13 +1,16 @@
 //! The rules on declarations that need no types of names.
 #![tactic(auto)]
 
+mod declared;
 mod exprs;
 mod members;
 mod modifiers;
 mod noted;
 mod plain;
+mod repeats;
 mod stmts;
 mod types;
 mod vars;
 
+pub use declared::first_declared;
 pub use plain::first_plain;
