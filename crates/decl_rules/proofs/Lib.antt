@@ -7,3 +7,5 @@ pub mod Inside
 pub mod Walking
 pub mod Deciding
 pub mod Looking
+pub mod Repeating
+pub mod Declaring

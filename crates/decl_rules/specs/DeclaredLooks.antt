@@ -1,5 +1,5 @@
 -- What the looks at declarations answer for the DR rules: the first broken rule so far goes in, and the first one behind the declaration comes out.
-use Rattle.std.specs.Prelude.{ℕ, ◌+◌, min, ◌-◌, ◌^◌, Bool, true, false, not, ◌&&◌, ◌||◌, List, [], ◌∷◌, ◌++◌, map, Option, Some, None, is_some, is_none, nat_eq, if◌then◌else◌}
+use Rattle.std.specs.Prelude.{ℕ, Bool, false, not, ◌&&◌, ◌||◌, List, [], ◌∷◌, map, is_some, is_none, nat_eq, if◌then◌else◌}
 use Rattle.std.specs.List.{list_any}
 use Rattle.indexmap.specs.IndexSet.{insert_key}
 use Rattle.java_tree.specs.declared.tree.Name.{Name}
@@ -8,7 +8,6 @@ use Rattle.java_tree.specs.declared.tree.Mod.{Mod}
 use Rattle.java_tree.specs.declared.tree.Mod.TheVariants as mods
 use Rattle.java_tree.specs.Plain as t
 use Rattle.java_tree.specs.Plain.{TypeDecl, MethodDecl, Member, Var, Param}
-use Rattle.rule_order.specs.declared.Breach.{Breach}
 use Rattle.decl_rules.specs.declared.repeats.Named.{Named}
 use Rattle.decl_rules.specs.DeclaredRules.{field_vars, type_mods, field_mods, member_mods}
 use Rattle.decl_rules.specs.Walk.{Walk, noted}
