@@ -134,11 +134,9 @@ abbrev pub methods_of : List TypeDecl → ℕ
 methods_of [] = 0
 methods_of (d ∷ ds) = methods_among d.members + methods_of ds
 
--- how many types files declare (L6), and how many methods and constructors they write (L7)
-abbrev pub declared_types : List SourceUnit → ℕ
-declared_types [] = 0
-declared_types (u ∷ us) = length u.types + declared_types us
+-- how many types a file declares (L6), and how many methods and constructors it writes (L7)
+abbrev pub declared_types : SourceUnit → ℕ
+declared_types u = length u.types
 
-abbrev pub declared_methods : List SourceUnit → ℕ
-declared_methods [] = 0
-declared_methods (u ∷ us) = methods_of u.types + declared_methods us
+abbrev pub declared_methods : SourceUnit → ℕ
+declared_methods u = methods_of u.types

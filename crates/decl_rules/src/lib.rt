@@ -1,6 +1,7 @@
 //! The rules on declarations that need no types of names.
 #![tactic(auto)]
 
+mod counting;
 mod declared;
 mod exprs;
 mod members;
@@ -12,5 +13,6 @@ mod stmts;
 mod types;
 mod vars;
 
+pub use counting::{Counts, count};
 pub use declared::first_declared;
 pub use plain::first_plain;
