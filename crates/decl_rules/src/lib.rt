@@ -10,6 +10,8 @@ mod noted;
 mod plain;
 mod repeats;
 mod stmts;
+#[cfg(test)]
+mod tests;
 mod types;
 mod vars;
 

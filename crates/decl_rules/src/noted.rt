@@ -11,15 +11,12 @@ use rule_order::{Breach, earlier};
 pub(crate) fn noted(first: Option<Breach>, rule: u8, node: Node, holds: bool) -> Option<Breach>
     ensures { result ≡ spec.noted first rule node holds }
 {
-    if holds {
-        earlier(
-            first,
-            Some(Breach {
-                node: node.id,
-                rule,
-            }),
-        )
-    } else {
-        first
+    if !holds {
+        return first;
     }
+    let next = Breach {
+        node: node.id,
+        rule,
+    };
+    earlier(first, Some(next))
 }
