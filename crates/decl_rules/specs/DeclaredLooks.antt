@@ -1,4 +1,4 @@
--- What the looks at declarations answer for the DR rules: the first broken rule so far goes in, and the first one behind the declaration comes out.
+-- What the looks at declarations answer for the DR rules, likewise.
 use Rattle.std.specs.Prelude.{ℕ, Bool, false, not, ◌&&◌, ◌||◌, List, [], ◌∷◌, map, is_some, is_none, nat_eq, if◌then◌else◌}
 use Rattle.std.specs.List.{list_any}
 use Rattle.indexmap.specs.IndexSet.{insert_key}

@@ -1,4 +1,4 @@
--- What the looks at declarations answer: the first broken rule so far goes in, and the first one behind the declaration comes out.
+-- What the looks at declarations answer for the S rules, likewise: the first broken rule so far goes in, and the first one behind the declaration comes out.
 use Rattle.std.specs.Prelude.{ℕ, Bool, true, false, not, ◌&&◌, ◌||◌, List, [], ◌∷◌, Option, Some, None, codes, slice_get, if◌then◌else◌}
 use Rattle.std.specs.List.{list_any}
 use Rattle.std.specs.Str.{bytes_eq}

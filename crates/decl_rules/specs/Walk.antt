@@ -1,4 +1,5 @@
--- What the walk over the written types of a file answers: the first broken rule so far goes in, and the first one behind the subtree comes out.
+-- What the walk over the written types of a file answers: the first broken rule so far goes in, and the first one behind the subtree comes out. Contracts
+-- of private functions speak of it, and no public one does.
 use Rattle.std.specs.Prelude.{◌≡◌, ℕ, Bool, true, false, ◌&&◌, ◌||◌, List, [], ◌∷◌, Option, Some, None, nat_lt, nat_eq, nat_le}
 use Rattle.java_tree.specs.declared.tree.Head.{Head}
 use Rattle.java_tree.specs.declared.tree.Head.TheVariants as head

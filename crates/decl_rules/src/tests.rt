@@ -108,17 +108,19 @@ fn block(alloc: Global) -> Option<Stmt> {
     })
 }
 
-// A method without parameters, or a constructor.
+// A method without parameters, or a constructor, with a body if there is one.
 fn method(
     alloc: Global,
     mods: &[Mod],
     constructor: bool,
     name: Name,
-    body: Option<Stmt>,
+    there: bool,
 ) -> Result<Member, NoMemory> {
+    let mods = Items::from_slice(alloc, mods)?;
+    let body = if there { block(alloc) } else { None };
     Ok(Member::Method {
         node: node(6),
-        mods: Items::from_slice(alloc, mods)?,
+        mods,
         result: None,
         constructor,
         name,
@@ -202,7 +204,7 @@ fn plain_of_field(
 fn types_and_protected(rt: HostRuntime) -> Result<(), Fail> {
     let alloc = rt.alloc();
     let names = Names::new(alloc)?;
-    let member = method(alloc, &[Mod::Protected], false, Name(3), block(alloc))?;
+    let member = method(alloc, &[Mod::Protected], false, Name(3), true)?;
     let unit = file_with(alloc, &[], false, &[Name(4)], member)?;
     assert_eq!(rt; plain_of(&unit, &names), (at(5, 10), at(6, 18)));
     Ok(())
@@ -253,12 +255,7 @@ fn static_fields(rt: HostRuntime) -> Result<(), Fail> {
 fn takes(alloc: Global, text: &str) -> Result<(Option<Breach>, Option<Breach>), NoMemory> {
     let mut names = Names::new(alloc)?;
     let name = names.intern(text)?;
-    let alone = file(
-        alloc,
-        &[],
-        false,
-        method(alloc, &[], false, name, block(alloc))?,
-    )?;
+    let alone = file(alloc, &[], false, method(alloc, &[], false, name, true)?)?;
     let with_one = file(
         alloc,
         &[],
@@ -307,7 +304,7 @@ fn names_that_are_declared_twice(rt: HostRuntime) -> Result<(), Fail> {
     let alloc = rt.alloc();
     assert_eq!(rt; two_vars(alloc, Name(3), Name(3))?, at(12, 5));
     assert_eq!(rt; two_vars(alloc, Name(3), Name(4))?, None);
-    let member = method(alloc, &[], false, Name(3), block(alloc))?;
+    let member = method(alloc, &[], false, Name(3), true)?;
     assert_eq!(rt;
         declared(alloc, &[], false, &[Name(4), Name(4)], member)?,
         at(5, 8)
@@ -316,7 +313,7 @@ fn names_that_are_declared_twice(rt: HostRuntime) -> Result<(), Fail> {
 }
 
 fn type_with(alloc: Global, mods: &[Mod]) -> Result<Option<Breach>, NoMemory> {
-    let member = method(alloc, &[], false, Name(3), block(alloc))?;
+    let member = method(alloc, &[], false, Name(3), true)?;
     declared(alloc, mods, false, &[], member)
 }
 
@@ -335,12 +332,12 @@ fn with_body(
     interface: bool,
     body: Option<Stmt>,
 ) -> Result<Option<Breach>, NoMemory> {
-    let member = method(alloc, &[], false, Name(3), body)?;
+    let member = method(alloc, &[], false, Name(3), there)?;
     declared(alloc, &[], interface, &[], member)
 }
 
 fn constructor(alloc: Global, name: Name) -> Result<Option<Breach>, NoMemory> {
-    let member = method(alloc, &[], true, name, block(alloc))?;
+    let member = method(alloc, &[], true, name, true)?;
     declared(alloc, &[], false, &[], member)
 }
 
@@ -352,10 +349,10 @@ fn constant(alloc: Global, init: Option<Expr>) -> Result<Option<Breach>, NoMemor
 #[test]
 fn bodies_constructors_and_constants(rt: HostRuntime) -> Result<(), Fail> {
     let alloc = rt.alloc();
-    assert_eq!(rt; with_body(alloc, true, block(alloc))?, at(6, 10));
-    assert_eq!(rt; with_body(alloc, true, None)?, None);
-    assert_eq!(rt; with_body(alloc, false, block(alloc))?, None);
-    assert_eq!(rt; with_body(alloc, false, None)?, at(6, 10));
+    assert_eq!(rt; with_body(alloc, true, true)?, at(6, 10));
+    assert_eq!(rt; with_body(alloc, true, false)?, None);
+    assert_eq!(rt; with_body(alloc, false, true)?, None);
+    assert_eq!(rt; with_body(alloc, false, false)?, at(6, 10));
     assert_eq!(rt; constructor(alloc, Name(0))?, None);
     assert_eq!(rt; constructor(alloc, Name(3))?, at(6, 11));
     assert_eq!(rt; constant(alloc, None)?, at(8, 12));
@@ -366,7 +363,7 @@ fn bodies_constructors_and_constants(rt: HostRuntime) -> Result<(), Fail> {
 #[test]
 fn one_type_and_one_method(rt: HostRuntime) -> Result<(), Fail> {
     let alloc = rt.alloc();
-    let member = method(alloc, &[], true, Name(0), block(alloc))?;
+    let member = method(alloc, &[], true, Name(0), true)?;
     let unit = file(alloc, &[], false, member)?;
     let before = Counts {
         types: 4095,
