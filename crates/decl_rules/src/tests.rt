@@ -327,11 +327,7 @@ fn modifiers_of_a_type(rt: HostRuntime) -> Result<(), Fail> {
     Ok(())
 }
 
-fn with_body(
-    alloc: Global,
-    interface: bool,
-    body: Option<Stmt>,
-) -> Result<Option<Breach>, NoMemory> {
+fn with_body(alloc: Global, interface: bool, there: bool) -> Result<Option<Breach>, NoMemory> {
     let member = method(alloc, &[], false, Name(3), there)?;
     declared(alloc, &[], interface, &[], member)
 }
