@@ -1,0 +1,11 @@
+pub mod Adding
+pub mod Steps
+pub mod Measures
+pub mod Told
+pub mod Lists
+pub mod Inside
+pub mod Walking
+pub mod Deciding
+pub mod Looking
+pub mod Repeating
+pub mod Declaring

@@ -1,0 +1,7 @@
+use Rattle.std.proofs.Common.{map, drop, ◌≡◌}
+use Rattle.java_tree.specs.View.{var_plain}
+use Rattle.decl_rules.specs.Walk as spec
+use Rattle.decl_rules.proofs.types.has_brackets.Given as goal
+
+abbrev pub invariant-loop-v : goal.invariant-loop-v
+invariant-loop-v l = spec.has_brackets (map var_plain (drop l.v-index l.vars)) ≡ spec.has_brackets (map var_plain l.vars)

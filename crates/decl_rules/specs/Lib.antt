@@ -1,0 +1,6 @@
+pub mod Parts
+pub mod PlainRules
+pub mod DeclaredRules
+pub mod Walk
+pub mod Looks
+pub mod DeclaredLooks

@@ -1,0 +1,96 @@
+-- The S rules on what a file writes, which no name of a type decides.
+use Rattle.std.specs.Prelude.{◌≡◌, ◌≢◌, ◌<◌, ◌⊎◌, ℕ, Bool, true, false, List, [], ◌∷◌, Some, Contains, slice_get, codes}
+use Rattle.java_tree.specs.declared.tree.Head.{Head}
+use Rattle.java_tree.specs.declared.tree.Head.TheVariants as head
+use Rattle.java_tree.specs.declared.tree.Mod.TheVariants as mods
+use Rattle.java_tree.specs.declared.tree.UnOp.TheVariants as op
+use Rattle.java_tree.specs.Plain as t
+use Rattle.java_tree.specs.Plain.{SourceUnit, TypeDecl, FieldDecl, MethodDecl, Member, TypeExpr, Var, Expr}
+use Rattle.java_tree.specs.Children as c
+use Rattle.java_tree.specs.Children.{Item}
+use Rattle.rule_order.specs.First.{Breaches, Either}
+use Rattle.decl_rules.specs.Parts.{At, Nowhere, SomeOf, SomeWithin, node_of, head_of, args_of, dims_of, mods_of, member_node}
+
+-- ---- written types
+
+-- two or more names, with dots between them
+abbrev pub IsQualified : Head → Type 0
+IsQualified (head.Path (x ∷ y ∷ names)) = Unit {0}
+IsQualified _ = ⊥
+
+-- S13: a type is named by a qualified name.
+abbrev pub NamesQualified : Item → Breaches
+NamesQualified (c.TypeExpr x) = At 13 (node_of x) (IsQualified (head_of x))
+NamesQualified _ = Nowhere
+
+-- one of the variables has brackets behind its name
+abbrev pub HasBrackets : List Var → Type 0
+HasBrackets vars = (v : Var) × Contains vars v × (0 < v.dims)
+
+-- The node makes an array type, and the type without its brackets is written as this one (JLS 10.1): a type with brackets, a declaration with brackets
+-- behind a name, an array creation.
+abbrev pub IsElement : Item → TypeExpr → Type 0
+IsElement (c.TypeExpr x) ty = (ty ≡ x) × (0 < dims_of x)
+IsElement (c.Member (t.AField f)) ty = (ty ≡ f.ty) × HasBrackets f.vars
+IsElement (c.Param p) ty = (ty ≡ p.ty) × (0 < p.dims)
+IsElement (c.Stmt (t.Local n final_ x vars)) ty = (ty ≡ x) × HasBrackets vars
+IsElement (c.Expr (t.NewArray n x sizes extra)) ty = ty ≡ x
+IsElement _ ty = ⊥
+
+-- S17: an array's element type has type arguments.
+abbrev pub HasGenericElements : Item → Breaches
+HasGenericElements y b = (ty : TypeExpr) × IsElement y ty × At 17 (node_of ty) (args_of ty ≢ t.NoTypes) b
+
+-- ---- types and members
+
+-- S10, of a user file: a type has type parameters. S18, of a library file: it is protected.
+abbrev pub TypeBreaks : (user : Bool) → TypeDecl → Breaches
+TypeBreaks user d = Either (At 10 d.node ((user ≡ true) × (d.params ≢ []))) (At 18 d.node ((user ≡ false) × Contains d.mods mods.Protected))
+
+-- a literal (JLS 3.10)
+abbrev pub is_literal : Expr → Bool
+is_literal (t.Number n x d l) = true
+is_literal (t.Char n x) = true
+is_literal (t.Text n x) = true
+is_literal (t.Truth n x) = true
+is_literal (t.Null n) = true
+is_literal _ = false
+
+-- a literal, or a minus and a literal
+abbrev pub is_signed_literal : Expr → Bool
+is_signed_literal (t.Unary n op.Minus x) = is_literal x
+is_signed_literal x = is_literal x
+
+-- a field of an interface is static, written or not (JLS 9.3)
+abbrev pub IsStatic : TypeDecl → FieldDecl → Type 0
+IsStatic d f = (d.interface ≡ true) ⊎ Contains f.mods mods.Static
+
+-- S16: the initialiser of a static field is not a literal with an optional minus.
+abbrev pub SetsStatic : TypeDecl → Member → Breaches
+SetsStatic d (t.AField f) = SomeOf f.vars (λ v. At 16 v.node (IsStatic d f × ((x : Expr) × (v.init ≡ Some x) × (is_signed_literal x ≡ false))))
+SetsStatic d (t.AMethod m) = Nowhere
+
+-- S18, of a library file: a member is protected.
+abbrev pub IsProtected : (user : Bool) → Member → Breaches
+IsProtected user m = At 18 (member_node m) ((user ≡ false) × Contains (mods_of m) mods.Protected)
+
+-- methods of Object that a program does not have
+abbrev pub left_out_names : List (List ℕ)
+left_out_names = codes "getClass" ∷ codes "notify" ∷ codes "notifyAll" ∷ codes "clone" ∷ codes "finalize" ∷ []
+
+abbrev pub IsLeftOut : MethodDecl → (text : List ℕ) → Type 0
+IsLeftOut m text = (text ≡ codes "wait") ⊎ ((m.params ≡ []) × Contains left_out_names text)
+
+-- S19: a method without parameters has one of those names, or a method is named wait.
+abbrev pub TakesName : (names : List (List ℕ)) → Member → Breaches
+TakesName names (t.AField f) = Nowhere
+TakesName names (t.AMethod m) = At 19 m.node ((m.constructor ≡ false) × ((text : List ℕ) × (slice_get names m.name.0 ≡ Some text) × IsLeftOut m text))
+
+abbrev pub MemberBreaks : (user : Bool) → (names : List (List ℕ)) → TypeDecl → Member → Breaches
+MemberBreaks user names d m = Either (SetsStatic d m) (Either (IsProtected user m) (TakesName names m))
+
+-- S10, S13, S16, S17, S18 and S19, in a user's file or one of a library
+abbrev pub BreaksPlain : SourceUnit → (user : Bool) → (names : List (List ℕ)) → Breaches
+BreaksPlain u user names =
+    Either (SomeWithin (c.File u) (λ y. Either (NamesQualified y) (HasGenericElements y)))
+    (SomeOf u.types (λ d. Either (TypeBreaks user d) (SomeOf d.members (MemberBreaks user names d))))

@@ -1,0 +1,20 @@
+//! The rules on declarations that need no types of names.
+#![tactic(auto)]
+
+mod counting;
+mod declared;
+mod exprs;
+mod members;
+mod modifiers;
+mod noted;
+mod plain;
+mod repeats;
+mod stmts;
+#[cfg(test)]
+mod tests;
+mod types;
+mod vars;
+
+pub use counting::{Counts, count};
+pub use declared::first_declared;
+pub use plain::first_plain;

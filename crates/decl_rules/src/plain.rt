@@ -1,0 +1,180 @@
+//! The rules on what a file writes, which no name of a type decides.
+
+ghost use Rattle.std.specs.Prelude.{◌≡◌, map, slice_get, option_copied, not, ◌&&◌, if◌then◌else◌};
+ghost use Rattle.std.specs.Option.{option_map};
+ghost use Rattle.java_tree.specs.declared.tree.Mod.TheVariants as mod_;
+ghost use Rattle.java_tree.specs.View.{plain, var_plain, param_plain, member_plain, decl_plain, unit_plain};
+ghost use Rattle.rule_order.specs.First.{IsFirst};
+ghost use Rattle.decl_rules.specs.PlainRules as rule;
+ghost use Rattle.decl_rules.specs.Looks as spec;
+
+use crate::members::walk_decls;
+use crate::modifiers::has;
+use crate::noted::noted;
+use java_tree::tree::{Expr, ExprForm, Member, Mod, Name, Param, SourceUnit, TypeDecl, UnOp, Var};
+use java_tree::{Items, Names};
+use rule_order::Breach;
+
+/// The first of S10, S13, S16, S17, S18 and S19 that a file breaks: at the first node, and there the rule with the lowest number. `user` says whether it is a
+/// user's file (S10) or one of a library (S18). Node numbers are those of the tree.
+pub fn first_plain(unit: &SourceUnit, user: bool, names: &Names) -> Option<Breach>
+    ensures { IsFirst (rule.BreaksPlain (unit_plain unit.now) user names.now) result }
+{
+    let first = walk_decls(&unit.types, None);
+    look_at_types(&unit.types, user, names, first)
+}
+
+fn look_at_types(
+    types: &Items<TypeDecl>,
+    user: bool,
+    names: &Names,
+    mut first: Option<Breach>,
+) -> Option<Breach>
+    ensures { result ≡ spec.plain_types user names.now (map decl_plain types.now) first }
+{
+    for d in types.as_slice() {
+        first = look_at_type(d, user, names, first);
+    }
+    first
+}
+
+fn look_at_type(d: &TypeDecl, user: bool, names: &Names, first: Option<Breach>) -> Option<Breach>
+    ensures { result ≡ spec.plain_type user names.now (decl_plain d.now) first }
+{
+    let first = noted(first, 10, d.node, user && !has_none(&d.params));
+    let mut first = noted(first, 18, d.node, is_protected(user, &d.mods));
+    for m in d.members.as_slice() {
+        first = look_at_member(m, d, user, names, first);
+    }
+    first
+}
+
+fn has_none(names: &Items<Name>) -> bool
+    ensures { result ≡ spec.is_nil names.now }
+{
+    names.is_empty()
+}
+
+// Whether the modifiers of a library file's declaration have `protected`.
+fn is_protected(user: bool, mods: &Items<Mod>) -> bool
+    ensures { result ≡ (not user && spec.has mod_.Protected mods.now) }
+{
+    !user && has(Mod::Protected, mods)
+}
+
+#[tactic(auto, using(crate::proofs::Deciding::nil_mapped))]
+fn is_alone(params: &Items<Param>) -> bool
+    ensures { result ≡ spec.is_nil (map param_plain params.now) }
+{
+    params.is_empty()
+}
+
+fn look_at_member(
+    m: &Member,
+    d: &TypeDecl,
+    user: bool,
+    names: &Names,
+    first: Option<Breach>,
+) -> Option<Breach>
+    ensures { result ≡ spec.plain_member user names.now (decl_plain d.now) (member_plain m.now) first }
+{
+    match m {
+        Member::Field {
+            node,
+            mods,
+            vars,
+            ..
+        } => {
+            let first = look_at_vars(d.interface || has(Mod::Static, mods), vars, first);
+            noted(first, 18, *node, is_protected(user, mods))
+        }
+        Member::Method {
+            node,
+            mods,
+            constructor,
+            name,
+            params,
+            ..
+        } => {
+            let first = noted(first, 18, *node, is_protected(user, mods));
+            let takes = !*constructor && is_left_out(is_alone(params), text_of(names, *name));
+            noted(first, 19, *node, takes)
+        }
+    }
+}
+
+// The variables of a field, which may be static.
+fn look_at_vars(is_static: bool, vars: &Items<Var>, mut first: Option<Breach>) -> Option<Breach>
+    ensures { result ≡ (if is_static then spec.set_vars (map var_plain vars.now) first else first) }
+{
+    if !is_static {
+        return first;
+    }
+    for v in vars.as_slice() {
+        first = noted(first, 16, v.node, is_set(&v.init));
+    }
+    first
+}
+
+// Whether an initialiser is there, and no literal with an optional minus.
+fn is_set(init: &Option<Expr>) -> bool
+    ensures { result ≡ spec.is_set (option_map plain init.now) }
+{
+    match init {
+        None => false,
+        Some(x) => !is_signed_literal(x),
+    }
+}
+
+fn is_signed_literal(x: &Expr) -> bool
+    ensures { result ≡ rule.is_signed_literal (plain x.now) }
+{
+    match &x.form {
+        ExprForm::Unary { op, of } => match op {
+            UnOp::Minus => is_literal(of.get()),
+            UnOp::Plus | UnOp::Invert | UnOp::Not => false,
+        },
+        _ => is_literal(x),
+    }
+}
+
+fn is_literal(x: &Expr) -> bool
+    ensures { result ≡ rule.is_literal (plain x.now) }
+{
+    match &x.form {
+        ExprForm::Number { .. }
+        | ExprForm::Char(_)
+        | ExprForm::Text(_)
+        | ExprForm::Bool(_)
+        | ExprForm::Null => true,
+        _ => false,
+    }
+}
+
+/// The text of a name, if the table has one.
+fn text_of(names: &Names, name: Name) -> Option<&str>
+    ensures { option_copied result ≡ slice_get names.now name.0 }
+{
+    if (name.0 as usize) < names.len() {
+        Some(names.text(name))
+    } else {
+        None
+    }
+}
+
+// Whether a method has a name that no method of a program has; `alone` says that it has no parameters.
+fn is_left_out(alone: bool, text: Option<&str>) -> bool
+    ensures { result ≡ spec.is_left_out alone (option_copied text.entry) }
+{
+    match text {
+        None => false,
+        Some(text) => {
+            text == "wait"
+                || alone
+                    && matches!(
+                        text,
+                        "getClass" | "notify" | "notifyAll" | "clone" | "finalize"
+                    )
+        }
+    }
+}

@@ -1,0 +1,79 @@
+//! The walk over written types, and over what declares variables with them (S13, S17).
+
+ghost use Rattle.std.specs.Prelude.{◌≡◌, map};
+ghost use Rattle.std.specs.Option.{option_map};
+ghost use Rattle.java_tree.specs.View as view;
+ghost use Rattle.java_tree.specs.View.{type_plain, var_plain};
+ghost use Rattle.decl_rules.specs.Walk as spec;
+
+use crate::noted::noted;
+use java_tree::Items;
+use java_tree::tree::{Head, TypeExpr, Var};
+use rule_order::Breach;
+
+/// Whether a head is a path of two or more names.
+fn is_qualified(head: &Head) -> bool
+    ensures { result ≡ spec.is_qualified head.now }
+{
+    match head {
+        Head::Prim(_) => false,
+        Head::Path(names) => names.len() > 1,
+    }
+}
+
+/// Whether a type has type arguments.
+fn has_args(x: &TypeExpr) -> bool
+    ensures { result ≡ spec.has_args (type_plain x.now) }
+{
+    !x.args.is_empty()
+}
+
+/// The first broken rule so far, where a type is an array's element type if `is` says so.
+pub(crate) fn walk_element(is: bool, x: &TypeExpr, first: Option<Breach>) -> Option<Breach>
+    ensures { result ≡ spec.element is (type_plain x.now) first }
+{
+    noted(first, 17, x.node, is && has_args(x))
+}
+
+/// A type and its arguments.
+#[cycle(types)]
+pub(crate) fn walk_type(x: &TypeExpr, first: Option<Breach>) -> Option<Breach>
+    ensures { result ≡ spec.type (type_plain x.now) first }
+{
+    let first = noted(first, 13, x.node, is_qualified(&x.head));
+    let first = walk_element(x.dims > 0, x, first);
+    walk_types(&x.args, first)
+}
+
+/// Each of a list.
+#[cycle(types)]
+pub(crate) fn walk_types(xs: &Items<TypeExpr>, mut first: Option<Breach>) -> Option<Breach>
+    ensures { result ≡ spec.types (view.types (map type_plain xs.now)) first }
+{
+    for x in xs.as_slice() {
+        first = walk_type(x, first);
+    }
+    first
+}
+
+/// A type, if there is one.
+pub(crate) fn walk_maybe_type(x: &Option<TypeExpr>, first: Option<Breach>) -> Option<Breach>
+    ensures { result ≡ spec.maybe_type (option_map type_plain x.now) first }
+{
+    match x {
+        None => first,
+        Some(x) => walk_type(x, first),
+    }
+}
+
+/// Whether one of the variables has brackets behind its name.
+pub(crate) fn has_brackets(vars: &Items<Var>) -> bool
+    ensures { result ≡ spec.has_brackets (map var_plain vars.now) }
+{
+    for v in vars.as_slice() {
+        if v.dims > 0 {
+            return true;
+        }
+    }
+    false
+}
