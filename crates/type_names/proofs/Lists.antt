@@ -3,7 +3,7 @@ use Rattle.std.proofs.Common.{◌≡◌, ℕ, zero, suc, ◌+◌, ◌<◌, ◌�
 use Rattle.std.specs.Prelude.{slice_get}
 use Rattle.std.specs.List.{list_any, position_from}
 use Rattle.std.specs.Option.{option_or}
-use Rattle.std.proofs.lemmas.List.{take_more, take_all, drop_more, length-map, map-append}
+use Rattle.std.proofs.lemmas.List.{take_more, take_all, drop_more, length-map, map-append, length-take-le}
 use Rattle.std.proofs.lemmas.Option.{slice_get_within, get_or_from_slice_get}
 use Rattle.std.proofs.lemmas.List.Folds.{list_any-append}
 
@@ -32,6 +32,13 @@ place_push p n [] x = ap (λ k. cond (p x) (Some k) None) (let e : n ≡ n + 0 =
 place_push p n (y ∷ xs) x =
     ap (cond (p y) (Some n)) (place_push p (n + 1) xs x ∙ ap (λ k. option_or (position_from p (n + 1) xs) (cond (p x) (Some k) None)) (omega arith))
     ∙ or_cond (p y) (Some n) (position_from p (n + 1) xs) (cond (p x) (Some (n + length (y ∷ xs))) None) n refl
+
+pub place_take : {A : Type 0} (p : A → Bool) (xs : List A) (i : ℕ) (d : A) → i < length xs
+    → position_from p 0 (take (i + 1) xs) ≡ option_or (position_from p 0 (take i xs)) (cond (p (get_or xs i d)) (Some i) None)
+place_take p xs i d lt =
+    let size : length (take i xs) ≡ i = length-take-le i xs (omega arith) in
+    ap (position_from p 0) (take_more xs i d lt) ∙ place_push p 0 (take i xs) (get_or xs i d)
+    ∙ ap (λ k. option_or (position_from p 0 (take i xs)) (cond (p (get_or xs i d)) (Some k) None)) (let e : 0 + length (take i xs) ≡ i = omega arith in e)
 
 -- the places from i on
 pub place_drop : {A : Type 0} (p : A → Bool) (xs : List A) (i : ℕ) (x : A) → i < length xs → x ≡ get_or xs i x

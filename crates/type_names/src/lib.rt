@@ -1,6 +1,7 @@
 //! Which type a simple name means in a file, and the rules on the names of packages and types and on imports (JLS 3rd edition, 6.3, 6.5.5 and 7.5).
 #![tactic(auto)]
 
+mod firsts;
 mod known;
 
 pub use known::JavaNames;
