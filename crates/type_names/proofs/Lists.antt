@@ -1,5 +1,5 @@
 -- Lists that grow by one element, and places in them.
-use Rattle.std.proofs.Common.{◌≡◌, ℕ, zero, suc, ◌+◌, ◌<◌, ◌≤◌, true, false, Bool, cond, ◌||◌, List, [], ◌∷◌, ◌++◌, take, drop, map, flat_map, Option, Some, None, refl, sym, ap, ◌∙◌, length, get_or, arith, append_assoc}
+use Rattle.std.proofs.Common.{◌≡◌, ℕ, zero, suc, ◌+◌, ◌<◌, ◌≤◌, true, false, Bool, cond, ◌||◌, List, [], ◌∷◌, ◌++◌, take, drop, map, flat_map, Option, Some, None, ◌⊎◌, inl, inr, refl, sym, ap, ◌∙◌, length, get_or, arith, append_assoc}
 use Rattle.std.specs.Prelude.{slice_get}
 use Rattle.std.specs.List.{list_any, position_from}
 use Rattle.std.specs.Option.{option_or}
@@ -62,3 +62,14 @@ pub joined_more : {A B : Type 0} (f : List A → List B) (g : A → List B) (old
 joined_more f g old mid new xs i x grows lt is before push =
     push ∙ ap (λ m. m ++ g x) before ∙ append_assoc old (f (take i xs)) (g x)
     ∙ ap (λ ys. old ++ ys) (sym (grows (take i xs) x) ∙ ap f (sym (take_more xs i x lt ∙ ap (λ z. take i xs ++ z ∷ []) (sym is))))
+
+pub empty_is : {A : Type 0} (xs : List A) → length xs ≡ 0 → xs ≡ []
+empty_is [] e = refl
+empty_is (x ∷ xs) e = absurd (omega (arith, e))
+
+-- an element of a list that grew by one: one of the old ones, or the new one behind them
+pub get_push : {A : Type 0} (xs : List A) (x : A) (k : ℕ) (y : A) → slice_get (xs ++ x ∷ []) k ≡ Some y → (slice_get xs k ≡ Some y) ⊎ ((k ≡ length xs) × (x ≡ y))
+get_push [] x zero y e = inr (refl, cc e)
+get_push [] x (suc k) y e = absurd (cc e)
+get_push (z ∷ xs) x zero y e = inl e
+get_push (z ∷ xs) x (suc k) y e = elim (get_push xs x k y e) [ inl old ↦ inl old | inr new ↦ inr (omega (arith, new.0), new.1) ]

@@ -22,7 +22,7 @@ is_open f t = (t.is_public || same_path t.«package» f.unit.«package») && (f.
 
 -- by a single-type import (JLS 7.5.1)
 abbrev pub is_imported : File → KnownType → Bool
-is_imported f t = is_open f t && list_any (λ (i : Import). not i.all && same_path i.path (full_name t)) f.unit.imports
+is_imported f t = is_open f t && list_any (λ (i : Import). not i.all && same_path (full_name t) i.path) f.unit.imports
 
 -- by the file's own package (JLS 7.6)
 abbrev pub is_beside : File → KnownType → Bool
@@ -31,7 +31,7 @@ is_beside f t = is_open f t && same_path t.«package» f.unit.«package»
 -- by an import on demand (JLS 7.5.2), of which there is one of java.lang in each file (JLS 7.5.3)
 abbrev pub is_on_demand : JavaNames → File → KnownType → Bool
 is_on_demand j f t =
-    is_open f t && (same_path t.«package» (lang_package j) || list_any (λ (i : Import). i.all && same_path i.path t.«package») f.unit.imports)
+    is_open f t && (same_path t.«package» (lang_package j) || list_any (λ (i : Import). i.all && same_path t.«package» i.path) f.unit.imports)
 
 -- the number of the first type of a name that is seen
 abbrev pub first_seen : Name → (KnownType → Bool) → List KnownType → Option ℕ
