@@ -5,3 +5,6 @@ pub mod Tests
 pub mod Opens
 pub mod Demands
 pub mod Held
+pub mod Breaches
+pub mod Tested
+pub mod Named

@@ -164,7 +164,7 @@ none_open ps t ts f x path holds none = place_none (is_open_in f path x) 0 ts (�
 
 -- ---- single-type imports
 
-last_same : (a b : List Name) (m n : Name) → same_path (a ++ m ∷ []) (b ++ n ∷ []) ≡ (same_path a b && nat_eq m.0 n.0)
+pub last_same : (a b : List Name) (m n : Name) → same_path (a ++ m ∷ []) (b ++ n ∷ []) ≡ (same_path a b && nat_eq m.0 n.0)
 last_same [] [] m n = and_yes (nat_eq m.0 n.0)
   where
     and_yes : (a : Bool) → (a && true) ≡ a

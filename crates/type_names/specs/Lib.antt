@@ -2,3 +2,4 @@ pub mod Known
 pub mod Sees
 pub mod Rules
 pub mod Tables
+pub mod Searches

@@ -1,5 +1,5 @@
 -- The rules on names of packages and types, and on imports: where each is broken.
-use Rattle.std.specs.Prelude.{◌≡◌, ◌≢◌, ℕ, ◌<◌, ◌⊎◌, true, false, List, [], ◌∷◌, Some, slice_get}
+use Rattle.std.specs.Prelude.{◌≡◌, ◌≢◌, ℕ, ◌<◌, ◌⊎◌, Bool, true, false, List, [], ◌∷◌, Some, slice_get}
 use Rattle.java_tree.specs.declared.tree.Name.{Name}
 use Rattle.java_tree.specs.declared.tree.Import.{Import}
 use Rattle.java_tree.specs.Plain.{SourceUnit}
@@ -59,18 +59,21 @@ NameBreaches j user lib b =
     ⊎ BreaksOwnName (types_of j (files_of user lib)) b
 
 -- A single-type import names nothing where it is the qualified name of no type that is open to the file (JLS 7.5.1).
-abbrev pub NamesNoType : JavaNames → List File → File → Import → Type 0
-NamesNoType j fs f i = (k : ℕ) (t : KnownType) → slice_get (types_of j fs) k ≡ Some t → is_open f t ≡ true → i.path ≢ full_name t
+abbrev pub NamesNoType : List KnownType → File → List Name → Type 0
+NamesNoType types f path = (k : ℕ) (t : KnownType) → slice_get types k ≡ Some t → is_open f t ≡ true → path ≢ full_name t
 
 -- An import on demand names nothing where it is no package of a built-in type and none of a file; in a library file, none of a library file (JLS 7.5.2).
-abbrev pub NamesNoPackage : JavaNames → List File → File → Import → Type 0
-NamesNoPackage j fs f i =
-    (i.path ≢ lang_package j) × (i.path ≢ io_package j)
-    × ((k : ℕ) (g : File) → slice_get fs k ≡ Some g → (f.user ≡ true) ⊎ (g.user ≡ false) → i.path ≢ g.unit.«package»)
+abbrev pub NamesNoPackage : JavaNames → List File → Bool → List Name → Type 0
+NamesNoPackage j fs user path =
+    (path ≢ lang_package j) × (path ≢ io_package j)
+    × ((k : ℕ) (g : File) → slice_get fs k ≡ Some g → (user ≡ true) ⊎ (g.user ≡ false) → path ≢ g.unit.«package»)
+
+abbrev pub NamesNothing : List KnownType → JavaNames → List File → File → Import → Type 0
+NamesNothing types j fs f i = ((i.all ≡ false) × NamesNoType types f i.path) ⊎ ((i.all ≡ true) × NamesNoPackage j fs f.user i.path)
 
 -- DR1 at an import
 abbrev pub BreaksImport : JavaNames → List File → File → Import → Breaches
-BreaksImport j fs f i b = IsAt i.node.id 1 b × (((i.all ≡ false) × NamesNoType j fs f i) ⊎ ((i.all ≡ true) × NamesNoPackage j fs f i))
+BreaksImport j fs f i b = IsAt i.node.id 1 b × NamesNothing (types_of j fs) j fs f i
 
 abbrev pub ImportBreaches : JavaNames → List File → Breaches
 ImportBreaches j fs = Among (λ f. Among (BreaksImport j fs f) f.unit.imports) fs

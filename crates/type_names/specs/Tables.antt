@@ -97,6 +97,7 @@ pub record HoldsFiles (ps : List (List Name)) (j : JavaNames) (ts : List KnownTy
 
 -- The table is that of the program with these files.
 pub record StandsFor (t : TypeNames) (j : JavaNames) (fs : List File) : Type 0 where
+  pub homes : t.packages ≡ packages j fs
   pub types : HoldsTypes t.packages t.firsts (types_of j fs)
   pub files : HoldsFiles t.packages j (types_of j fs) fs t.files.items
 

@@ -3,8 +3,14 @@
 
 mod files;
 mod firsts;
+mod imports;
 mod known;
+mod packages;
+mod rules;
 mod table;
+#[cfg(test)]
+mod tests;
 
 pub use known::JavaNames;
+pub use rules::first_name_breach;
 pub use table::TypeNames;

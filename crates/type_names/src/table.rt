@@ -19,25 +19,27 @@ use std::alloc::Global;
 /// The types of a program by their names, and what each file sees of them.
 #[derive(Drop)]
 pub struct TypeNames {
-    packages: Items<Items<Name>>,
-    firsts: FirstTypes,
+    pub(crate) packages: Items<Items<Name>>,
+    pub(crate) firsts: FirstTypes,
     files: Vec<FileNames>,
 }
 
 impl TypeNames {
-    /// The table of a program with fewer than 2^32 types.
+    /// The table of a program. Numbers of types are of 32 bits, so 2^32 types or more are want of memory too.
     pub fn of(
         alloc: Global,
         java: JavaNames,
         user: &[SourceUnit],
         lib: &[SourceUnit],
     ) -> Result<TypeNames, NoMemory>
-        requires { length (types_of java (files_of (map unit_plain user.now) (map unit_plain lib.now))) < 2 ^ 32 }
         ensures { IfOk result (λ t. StandsFor t java (files_of (map unit_plain user.now) (map unit_plain lib.now))) }
     {
         let packages = packages_of(alloc, java, user, lib)?;
         let paths = packages.as_slice();
         let types = known_types(alloc, java, paths, user, lib)?;
+        if types.len() > u32::MAX as usize {
+            return Err(NoMemory);
+        }
         let firsts = FirstTypes::of(alloc, &types)?;
         let mut files = Vec::new(alloc);
         push_files(alloc, java, paths, &firsts, user, true, &mut files)?;

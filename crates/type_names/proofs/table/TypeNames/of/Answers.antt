@@ -19,6 +19,7 @@ returns c =
     let first = c.in_ok-push_files.ensures (types_of c.args.java fs) [] types (user_homes c.args.java user lib ps same) (no_files ps c.args.java (types_of c.args.java fs) c.new-files.result.items empty) in
     let second = c.in_ok-push_files-2.ensures (types_of c.args.java fs) (files_in true user) types (lib_homes c.args.java user lib ps same) first in
     record {
+      homes = c.in_ok-packages.ensures;
       types = subst (λ p. HoldsTypes p c.in_ok-firsts.firsts (types_of c.args.java fs)) c.as_slice-paths.ensures types;
       files = subst (λ p. HoldsFiles p c.args.java (types_of c.args.java fs) fs c.push_files-2.new.files.items) c.as_slice-paths.ensures second;
     }
