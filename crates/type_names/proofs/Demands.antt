@@ -9,7 +9,7 @@ use Rattle.type_names.specs.Known.{lang_package}
 use Rattle.type_names.specs.Sees.{same_path}
 use Rattle.type_names.specs.Tables.{number_in, has_on_demand, HoldsDemands}
 use Rattle.type_names.proofs.Lists.{any_more}
-use Rattle.type_names.proofs.Tests.{or_no, or_more, or_same}
+use Rattle.type_names.proofs.Truths.{or_no, or_more, or_same}
 
 -- each is the number of a package
 abbrev pub AreReal : List (List Name) → List ℕ → Type 0

@@ -1,7 +1,7 @@
 pub mod Lists
 pub mod Homes
 pub mod Keys
-pub mod Tests
+pub mod Truths
 pub mod Opens
 pub mod Demands
 pub mod Held
