@@ -1,16 +1,12 @@
 -- Searches for the first broken rule.
-use Rattle.std.proofs.Common.{◌≡◌, ◌≢◌, ℕ, zero, suc, ◌+◌, ◌<◌, ◌≤◌, Bool, true, false, ◌||◌, ◌⊎◌, ◌↔◌, inl, inr, List, [], ◌∷◌, ◌++◌, map, take, Option, Some, None, refl, sym, ap, ◌∙◌, subst, length, get_or, arith}
-use Rattle.std.specs.Prelude.{slice_get, nat_eq}
-use Rattle.std.specs.List.{list_any}
+use Rattle.std.proofs.Common.{◌≡◌, ℕ, ◌+◌, ◌<◌, Bool, true, ◌↔◌, inl, inr, List, [], ◌∷◌, ◌++◌, map, take, Option, Some, None, refl, sym, ap, ◌∙◌, subst, length, get_or}
+use Rattle.std.specs.Prelude.{slice_get}
 use Rattle.std.proofs.lemmas.List.{take_more, map-append}
-use Rattle.std.proofs.lemmas.Option.{slice_get_within}
-use Rattle.std.proofs.lemmas.Bool.{eqb-true, eq-eqb, cases_Bool}
 use Rattle.rule_order.specs.declared.Breach.{Breach}
-use Rattle.rule_order.specs.First.{Breaches, Either, IsBefore, IsFirst, IsEarlier}
+use Rattle.rule_order.specs.First.{Breaches, Either, IsFirst, IsEarlier}
 use Rattle.rule_order.proofs.Firsts.{first_alike, first_of_both}
-use Rattle.type_names.specs.declared.known.Known as code
 use Rattle.type_names.specs.Rules.{Among, IsAt}
-use Rattle.type_names.specs.Searches.{IfBroken, IfDeclared, IsNamedAmong, IsNamedTwice, TypeBreaches}
+use Rattle.type_names.specs.Searches.{IfBroken}
 use Rattle.java_tree.specs.declared.tree.SourceUnit as declared
 use Rattle.java_tree.specs.View.{unit_plain}
 use Rattle.type_names.specs.Known.{File}

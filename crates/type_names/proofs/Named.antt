@@ -1,5 +1,5 @@
 -- The names of types.
-use Rattle.std.proofs.Common.{◌≡◌, ◌≢◌, ℕ, zero, suc, ◌+◌, ◌<◌, ◌≤◌, Bool, true, false, cond, ◌||◌, ◌⊎◌, ◌↔◌, inl, inr, List, [], ◌∷◌, ◌++◌, map, take, Option, Some, None, refl, sym, ap, ◌∙◌, subst, length, get_or, arith}
+use Rattle.std.proofs.Common.{◌≡◌, ℕ, zero, suc, ◌+◌, ◌<◌, Bool, true, false, cond, ◌||◌, ◌⊎◌, ◌↔◌, inl, inr, List, [], ◌∷◌, ◌++◌, map, take, Option, Some, None, refl, sym, ap, ◌∙◌, subst, length, get_or, arith}
 use Rattle.std.specs.Prelude.{slice_get, nat_eq}
 use Rattle.std.specs.List.{list_any}
 use Rattle.std.specs.Option.{option_map}
@@ -16,7 +16,7 @@ use Rattle.rule_order.proofs.Firsts.{first_alike, first_of_both}
 use Rattle.type_names.specs.declared.known.JavaNames.{JavaNames}
 use Rattle.type_names.specs.declared.known.Known as code
 use Rattle.type_names.specs.Known.{KnownType, File, files_of, types_of}
-use Rattle.type_names.specs.Rules.{Among, IsAt, BeginsPackage, BreaksOnePackage, BreaksOwnPackage, BreaksNamedPackage, BreaksTypeName, BreaksPackageName, BreaksOwnName, NameBreaches}
+use Rattle.type_names.specs.Rules.{Among, BeginsPackage, BreaksTypeName, BreaksPackageName, BreaksOwnName, NameBreaches}
 use Rattle.type_names.specs.Tables.{brief, files_in}
 use Rattle.type_names.specs.Searches.{IfBroken, IfDeclared, IsNamedAmong, IsNamedTwice, TypeBreaches, UserBreaches, LibBreaches, begins, begin}
 use Rattle.type_names.proofs.Lists.{get_push, any_more}

@@ -1,10 +1,9 @@
 -- Look-ups by package and name.
-use Rattle.std.proofs.Common.{◌≡◌, ℕ, zero, suc, ◌+◌, ◌<◌, ◌≤◌, Bool, true, false, not, cond, ◌&&◌, ◌||◌, leb, List, [], ◌∷◌, ◌++◌, map, Option, Some, None, ◌⊎◌, inl, inr, refl, sym, ap, ◌∙◌, subst, arith, length, get_or, take}
+use Rattle.std.proofs.Common.{◌≡◌, ℕ, zero, suc, ◌+◌, ◌<◌, ◌≤◌, Bool, true, false, not, cond, ◌&&◌, ◌||◌, List, [], ◌∷◌, ◌++◌, Option, Some, None, ◌⊎◌, inl, inr, refl, sym, ap, ◌∙◌, subst, arith, length, get_or, take}
 use Rattle.std.specs.Prelude.{slice_get, nat_eq}
 use Rattle.std.specs.Bool.{Decides}
 use Rattle.std.specs.List.{list_any, position_from}
-use Rattle.std.specs.Option.{option_or, unwrap_or}
-use Rattle.std.proofs.lemmas.Bool.{and_parts, cases_Bool, eqb-true, eq-eqb, true≢false, le-leb}
+use Rattle.std.proofs.lemmas.Bool.{cases_Bool, eqb-true, eq-eqb, true≢false, le-leb}
 use Rattle.std.proofs.lemmas.Bool.Decides.{Decides-eqb, leb_tells}
 use Rattle.std.proofs.lemmas.Slice.Eq.{slice_eq-Decides}
 use Rattle.std.proofs.lemmas.List.Folds.{list_any-append}
@@ -14,7 +13,7 @@ use Rattle.java_tree.specs.declared.tree.Import.{Import}
 use Rattle.type_names.specs.declared.firsts.FirstTypes.{FirstTypes}
 use Rattle.type_names.specs.Known.{KnownType, File}
 use Rattle.type_names.specs.Sees.{same_path, full_name, is_open}
-use Rattle.type_names.specs.Tables.{number_in, place_in, brief, least, fits, first_at, open_key, is_open_in, is_named_by, is_open_among, has_on_demand, HoldsTypes, HoldsDemands}
+use Rattle.type_names.specs.Tables.{number_in, place_in, brief, least, fits, first_at, open_key, is_open_in, is_named_by, is_open_among, HoldsTypes}
 use Rattle.type_names.proofs.Lists.{place_map, place_same}
 use Rattle.type_names.proofs.Truths.{both_same, and_no, or_no, key_tests, last_tests, apart_tests, either_tests}
 

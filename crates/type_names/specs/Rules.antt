@@ -4,7 +4,7 @@ use Rattle.java_tree.specs.declared.tree.Name.{Name}
 use Rattle.java_tree.specs.declared.tree.Import.{Import}
 use Rattle.java_tree.specs.Plain.{SourceUnit}
 use Rattle.rule_order.specs.declared.Breach.{Breach}
-use Rattle.rule_order.specs.First.{Breaches, Either}
+use Rattle.rule_order.specs.First.{Breaches}
 use Rattle.type_names.specs.declared.known.JavaNames.{JavaNames}
 use Rattle.type_names.specs.Known.{KnownType, File, files_of, types_of, lang_package, io_package}
 use Rattle.type_names.specs.Sees.{full_name, is_open}

@@ -1,10 +1,9 @@
 -- What the parts of the search for a broken rule look for.
-use Rattle.std.specs.Prelude.{◌≡◌, ◌≢◌, ℕ, ◌<◌, ◌⊎◌, ◌||◌, Bool, true, false, List, [], ◌∷◌, Some, slice_get, nat_eq, map}
+use Rattle.std.specs.Prelude.{◌≡◌, ◌≢◌, ℕ, ◌<◌, ◌⊎◌, Bool, true, false, List, [], ◌∷◌, Some, slice_get, nat_eq}
 use Rattle.std.specs.List.{list_any}
 use Rattle.java_tree.specs.declared.tree.Name.{Name}
 use Rattle.java_tree.specs.declared.tree.SourceUnit as declared
 use Rattle.java_tree.specs.Plain.{SourceUnit}
-use Rattle.java_tree.specs.View.{unit_plain}
 use Rattle.rule_order.specs.First.{Breaches, Either}
 use Rattle.type_names.specs.declared.known.JavaNames.{JavaNames}
 use Rattle.type_names.specs.declared.known.Known as code

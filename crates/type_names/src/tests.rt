@@ -375,9 +375,26 @@ fn a_library_file_imports_no_user_type(rt: HostRuntime) -> Result<(), Fail> {
     let table = TypeNames::of(alloc, java, &here, &none)?;
     assert_eq!(rt; table.first_import_breach(java, &here, &none), None);
     // A package of a user file is none to a library file.
-    let away = [file(alloc, &mut names, 9, &["util"], &[(10, true, &["shop"])], &[])?];
-    let home = [file(alloc, &mut names, 0, &["shop"], &[(1, true, &["util"])], &[])?];
+    let away = [file(
+        alloc,
+        &mut names,
+        9,
+        &["util"],
+        &[(10, true, &["shop"])],
+        &[],
+    )?];
+    let home = [file(
+        alloc,
+        &mut names,
+        0,
+        &["shop"],
+        &[(1, true, &["util"])],
+        &[],
+    )?];
     let table = TypeNames::of(alloc, java, &home, &away)?;
-    assert_eq!(rt; table.first_import_breach(java, &home, &away), breach(10, 1));
+    assert_eq!(rt;
+        table.first_import_breach(java, &home, &away),
+        breach(10, 1)
+    );
     Ok(())
 }

@@ -1,4 +1,4 @@
-use Rattle.std.proofs.Common.{◌≡◌, ◌∙◌, sym, ap, inl, inr, Some, None, cond, nat_eq, [], ◌∷◌, List, ℕ, Bool, true, false, Option, refl}
+use Rattle.std.proofs.Common.{◌≡◌, ◌∙◌, sym, ap, inl, inr, Some, None, cond, nat_eq, ℕ, Bool, true, false, Option, refl}
 use Rattle.std.specs.HashMap.{get}
 use Rattle.type_names.specs.Tables.{least}
 use Rattle.type_names.proofs.Lists.{empty_is}

@@ -1,9 +1,7 @@
-use Rattle.std.proofs.Common.{◌≡◌, ◌∙◌, ◌||◌, sym, ap, inl, inr, nat_eq, Some, true, false, ◌∷◌, []}
+use Rattle.std.proofs.Common.{◌≡◌, ◌∙◌, ◌||◌, sym, ap, inl, inr, nat_eq, Some, true, ◌∷◌, []}
 use Rattle.std.specs.List.{list_any}
 use Rattle.std.specs.Prelude.{slice_get}
 use Rattle.std.proofs.lemmas.List.Folds.{list_any-append}
-use Rattle.std.proofs.lemmas.Bool.{cases_Bool}
-use Rattle.type_names.specs.Sees.{same_path}
 use Rattle.type_names.proofs.Lists.{get_push}
 use Rattle.type_names.proofs.Truths.{or_no}
 use Rattle.type_names.proofs.Opens.{number_same, path_back, no_number, has_number}

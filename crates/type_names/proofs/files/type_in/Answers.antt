@@ -1,4 +1,4 @@
-use Rattle.std.proofs.Common.{◌≡◌, ◌∙◌, sym, ap}
+use Rattle.std.proofs.Common.{◌∙◌, sym, ap}
 use Rattle.type_names.specs.Tables.{first_at}
 use Rattle.type_names.proofs.Opens.{open_first, none_open}
 use Rattle.type_names.proofs.files.type_in.Goals as goal

@@ -1,7 +1,7 @@
-use Rattle.std.proofs.Common.{◌≡◌, ◌∙◌, ◌↔◌, true, sym, ap, subst, rules}
+use Rattle.std.proofs.Common.{◌≡◌, ◌↔◌, true, subst, rules}
 use Rattle.std.specs.Prelude.{is_none}
 use Rattle.type_names.specs.Rules.{NamesNoType}
-use Rattle.type_names.proofs.Tested.{no_type, empty_names_none}
+use Rattle.type_names.proofs.Tested.{no_type}
 use Rattle.type_names.proofs.imports.names_no_type.Goals as goal
 
 pub returns-in-Some : goal.returns-in-Some

@@ -2,7 +2,7 @@ use Rattle.std.proofs.Common.{◌≡◌, ◌∙◌, Bool, sym, ap, refl, true, f
 use Rattle.java_tree.specs.View.{unit_plain}
 use Rattle.type_names.specs.Known.{files_of}
 use Rattle.type_names.specs.Rules.{NamesNoPackage}
-use Rattle.type_names.proofs.Tested.{no_package, lib_package, user_package, built_in_package}
+use Rattle.type_names.proofs.Tested.{no_package, lib_package, user_package}
 use Rattle.type_names.proofs.packages.names_no_package.Goals as goal
 
 pub returns-then-has_package : goal.returns-then-has_package

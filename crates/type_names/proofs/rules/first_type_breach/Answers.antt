@@ -1,11 +1,11 @@
-use Rattle.std.proofs.Common.{◌≡◌, ◌∙◌, sym, ap, subst, nat_eq, get_or, false, None}
+use Rattle.std.proofs.Common.{◌≡◌, ◌∙◌, sym, subst, nat_eq, get_or, false, None}
 use Rattle.std.proofs.lemmas.Option.{slice_get-get_or, get_or_from_slice_get}
 use Rattle.type_names.specs.declared.known.Known.{Known}
 use Rattle.std.specs.HashSet.{contains}
 use Rattle.std.proofs.lemmas.List.{take_all}
 use Rattle.rule_order.specs.First.{IsFirst}
 use Rattle.type_names.specs.Searches.{TypeBreaches}
-use Rattle.type_names.proofs.Named.{seen_more, types_more, types_none}
+use Rattle.type_names.proofs.Named.{seen_more, types_more}
 use Rattle.type_names.proofs.rules.first_type_breach.Goals as goal
 
 pub loop-known-preserved : goal.loop-known-preserved

@@ -1,4 +1,4 @@
-use Rattle.std.proofs.Common.{◌≡◌, ◌∙◌, ◌++◌, map, take, sym, ap, subst, [], ◌∷◌}
+use Rattle.std.proofs.Common.{◌++◌, map, take, sym, subst, [], ◌∷◌}
 use Rattle.std.proofs.lemmas.List.{take_all}
 use Rattle.java_tree.specs.View.{unit_plain}
 use Rattle.type_names.specs.Known.{File}

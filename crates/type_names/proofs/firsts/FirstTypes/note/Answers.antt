@@ -2,7 +2,7 @@ use Rattle.std.proofs.Common.{◌≡◌, ◌∙◌, sym, cond, true, ap, refl, �
 use Rattle.std.specs.Prelude.{is_none}
 use Rattle.std.specs.Option.{option_or}
 use Rattle.type_names.specs.Tables.{same_key, first_at}
-use Rattle.type_names.proofs.Keys.{noted_new, noted_old, is_absent}
+use Rattle.type_names.proofs.Keys.{noted_new, is_absent}
 use Rattle.type_names.proofs.firsts.FirstTypes.note.Goals as goal
 
 pub returns-in_ok-insert : goal.returns-in_ok-insert

@@ -1,4 +1,4 @@
-use Rattle.std.proofs.Common.{◌≡◌, Some, nat_eq}
+use Rattle.std.proofs.Common.{Some, nat_eq}
 use Rattle.type_names.specs.Tables.{first_at}
 use Rattle.type_names.proofs.Keys.{noted}
 use Rattle.type_names.proofs.firsts.FirstTypes.note_keys.Goals as goal

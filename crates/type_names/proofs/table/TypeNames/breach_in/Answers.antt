@@ -1,4 +1,4 @@
-use Rattle.std.proofs.Common.{◌≡◌, ◌∙◌, map, Some, List, sym, ap, refl, subst, take, length}
+use Rattle.std.proofs.Common.{◌≡◌, ◌∙◌, map, Some, List, sym, ap, refl, subst}
 use Rattle.std.specs.Option.{unwrap_or}
 use Rattle.std.proofs.lemmas.List.{take_all}
 use Rattle.java_tree.specs.View.{unit_plain}

@@ -1,8 +1,8 @@
-use Rattle.std.proofs.Common.{◌≡◌, ◌∙◌, map, Some, List, refl, subst, take}
+use Rattle.std.proofs.Common.{map, List, refl, subst}
 use Rattle.std.proofs.lemmas.List.{take_all}
 use Rattle.java_tree.specs.View.{unit_plain}
-use Rattle.rule_order.specs.First.{IsFirst, Breaches}
-use Rattle.type_names.specs.Known.{File, files_of, types_of}
+use Rattle.rule_order.specs.First.{IsFirst}
+use Rattle.type_names.specs.Known.{File, files_of}
 use Rattle.type_names.specs.Rules.{Among, BreaksImport}
 use Rattle.type_names.specs.Tables.{files_in}
 use Rattle.type_names.proofs.Breaches.{among_file}

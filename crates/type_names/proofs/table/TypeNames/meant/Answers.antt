@@ -1,9 +1,9 @@
-use Rattle.std.proofs.Common.{◌≡◌, ◌∙◌, sym, ap, subst, Some, refl, length}
+use Rattle.std.proofs.Common.{◌∙◌, sym, ap, refl, length}
 use Rattle.std.specs.Prelude.{slice_get}
 use Rattle.std.specs.List.{position_from}
 use Rattle.std.proofs.lemmas.Option.{slice_get_read}
-use Rattle.type_names.specs.Known.{File, types_of}
-use Rattle.type_names.specs.Tables.{first_at, is_open_among, HoldsFile, StandsFor}
+use Rattle.type_names.specs.Known.{types_of}
+use Rattle.type_names.specs.Tables.{first_at, is_open_among}
 use Rattle.type_names.proofs.Opens.{open_first}
 use Rattle.type_names.proofs.Held.{meant_single, meant_beside, meant_on_demand, among_all}
 use Rattle.type_names.proofs.table.TypeNames.meant.Goals as goal

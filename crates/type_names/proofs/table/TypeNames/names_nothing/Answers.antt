@@ -1,7 +1,7 @@
 use Rattle.std.proofs.Common.{map}
 use Rattle.java_tree.specs.View.{unit_plain}
 use Rattle.type_names.specs.Known.{files_of}
-use Rattle.type_names.proofs.Tested.{on_demand_by, single_by}
+use Rattle.type_names.proofs.Tested.{on_demand_by}
 use Rattle.type_names.proofs.table.TypeNames.names_nothing.Goals as goal
 
 pub returns-then-import : goal.returns-then-import

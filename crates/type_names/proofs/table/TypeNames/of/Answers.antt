@@ -1,9 +1,9 @@
-use Rattle.std.proofs.Common.{◌≡◌, ◌∙◌, ◌++◌, sym, ap, subst, map, [], rules, List, true}
+use Rattle.std.proofs.Common.{◌≡◌, ◌∙◌, ap, subst, map, [], rules, List, true}
 use Rattle.std.specs.List.{position_from}
 use Rattle.java_tree.specs.declared.tree.Name.{Name}
 use Rattle.java_tree.specs.View.{unit_plain}
 use Rattle.type_names.specs.Known.{File, files_of, types_of}
-use Rattle.type_names.specs.Tables.{packages, fits, brief, files_in, HoldsTypes, HoldsFiles}
+use Rattle.type_names.specs.Tables.{packages, fits, files_in, HoldsTypes, HoldsFiles}
 use Rattle.type_names.proofs.Held.{types_held, user_homes, lib_homes, no_files}
 use Rattle.type_names.proofs.table.TypeNames.of.Goals as goal
 
