@@ -1,0 +1,10 @@
+pub mod Lists
+pub mod Homes
+pub mod Keys
+pub mod Truths
+pub mod Opens
+pub mod Demands
+pub mod Held
+pub mod Breaches
+pub mod Tested
+pub mod Named

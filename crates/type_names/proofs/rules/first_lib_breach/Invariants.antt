@@ -1,0 +1,9 @@
+use Rattle.std.proofs.Common.{map, take}
+use Rattle.java_tree.specs.View.{unit_plain}
+use Rattle.rule_order.specs.First.{IsFirst}
+use Rattle.type_names.specs.Rules.{Among}
+use Rattle.type_names.specs.Searches.{LibBreaches}
+use Rattle.type_names.proofs.rules.first_lib_breach.Given as goal
+
+abbrev pub invariant-loop-unit : goal.invariant-loop-unit
+invariant-loop-unit l = IsFirst (Among (LibBreaches) (map unit_plain (take l.unit-index l.lib))) l.found

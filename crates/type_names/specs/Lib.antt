@@ -1,0 +1,5 @@
+pub mod Known
+pub mod Sees
+pub mod Rules
+pub mod Tables
+pub mod Searches
