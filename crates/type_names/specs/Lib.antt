@@ -1,0 +1,4 @@
+pub mod Known
+pub mod Sees
+pub mod Rules
+pub mod Tables

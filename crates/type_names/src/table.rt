@@ -1,0 +1,97 @@
+//! Which type a simple name means in a file (JLS 3rd edition, 6.3 and 6.5.5.1).
+
+ghost use Rattle.std.specs.Prelude.{◌≡◌, ℕ, ◌<◌, ◌^◌, ◌++◌, List, length, map, slice_get, Some, IfOk, OnOk};
+ghost use Rattle.std.specs.List.{position_from};
+ghost use Rattle.java_tree.specs.declared.tree.Name as spec_name;
+ghost use Rattle.java_tree.specs.View.{unit_plain};
+ghost use Rattle.type_names.specs.declared.known.JavaNames as spec_java;
+ghost use Rattle.type_names.specs.Known.{KnownType, File, types_of, files_of};
+ghost use Rattle.type_names.specs.Sees.{meant};
+ghost use Rattle.type_names.specs.Tables.{number_in, is_open_among, files_in, HoldsTypes, HoldsFiles, HaveHomes, StandsFor};
+
+use crate::files::{FileNames, Home, least};
+use crate::firsts::FirstTypes;
+use crate::known::{JavaNames, known_types, packages_of};
+use java_tree::tree::{Name, SourceUnit};
+use java_tree::{Items, NoMemory};
+use std::alloc::Global;
+
+/// The types of a program by their names, and what each file sees of them.
+#[derive(Drop)]
+pub struct TypeNames {
+    packages: Items<Items<Name>>,
+    firsts: FirstTypes,
+    files: Vec<FileNames>,
+}
+
+impl TypeNames {
+    /// The table of a program with fewer than 2^32 types.
+    pub fn of(
+        alloc: Global,
+        java: JavaNames,
+        user: &[SourceUnit],
+        lib: &[SourceUnit],
+    ) -> Result<TypeNames, NoMemory>
+        requires { length (types_of java (files_of (map unit_plain user.now) (map unit_plain lib.now))) < 2 ^ 32 }
+        ensures { IfOk result (λ t. StandsFor t java (files_of (map unit_plain user.now) (map unit_plain lib.now))) }
+    {
+        let packages = packages_of(alloc, java, user, lib)?;
+        let paths = packages.as_slice();
+        let types = known_types(alloc, java, paths, user, lib)?;
+        let firsts = FirstTypes::of(alloc, &types)?;
+        let mut files = Vec::new(alloc);
+        push_files(alloc, java, paths, &firsts, user, true, &mut files)?;
+        push_files(alloc, java, paths, &firsts, lib, false, &mut files)?;
+        Ok(TypeNames {
+            packages,
+            firsts,
+            files,
+        })
+    }
+
+    /// The number of the type that a simple name means in a file, `None` where it means none. Files count from 0, user files before library files, and the numbers of types are those of `types_of`: built-in types first. Takes no memory, and time for the packages that the file imports on demand.
+    pub fn meant(&self, file: u32, name: Name) -> Option<u32>
+        ensures { (j : spec_java.JavaNames) (fs : List File) (f : File) → StandsFor self.now j fs → slice_get fs file ≡ Some f → result ≡ meant j fs f name }
+    {
+        let names = self.files.get(file as usize)?;
+        if let Some(at) = names.single(name) {
+            return Some(at);
+        }
+        let home = names.home;
+        if let Some(at) = self.firsts.get(home.key(home.package, name)) {
+            return Some(at);
+        }
+        first_in(&self.firsts, home, names.on_demand.as_slice(), name)
+    }
+}
+
+fn push_files(
+    alloc: Global,
+    java: JavaNames,
+    packages: &[Items<Name>],
+    firsts: &FirstTypes,
+    units: &[SourceUnit],
+    user: bool,
+    files: &mut Vec<FileNames>,
+) -> Result<(), NoMemory>
+    ensures { OnOk result ((ts : List KnownType) (fs : List File) → HoldsTypes packages.now firsts.now ts → HaveHomes packages.now (files_in user (map unit_plain units.now))
+        → HoldsFiles packages.now java ts fs files.old.items → HoldsFiles packages.now java ts (fs ++ files_in user (map unit_plain units.now)) files.new.items) }
+{
+    for unit in units {
+        files.push(FileNames::of(alloc, java, packages, firsts, unit, user)?)?;
+    }
+    Ok(())
+}
+
+/// The first open type of a name in one of these packages.
+fn first_in(firsts: &FirstTypes, home: Home, packages: &[usize], name: Name) -> Option<u32>
+    ensures { (ps : List (List spec_name.Name)) (ts : List KnownType) (f : File) → HoldsTypes ps firsts.now ts → number_in ps f.unit.«package» ≡ Some home.«package»
+        → home.user ≡ f.user → ((k p : ℕ) → slice_get packages.now k ≡ Some p → (path : List spec_name.Name) × (number_in ps path ≡ Some p))
+        → result ≡ position_from (is_open_among f ps packages.now name.0) 0 ts }
+{
+    let mut first = None;
+    for package in packages {
+        first = least(first, firsts.get(home.key(*package, name)));
+    }
+    first
+}
