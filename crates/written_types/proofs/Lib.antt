@@ -1,0 +1,6 @@
+pub mod Adding
+pub mod Steps
+pub mod Places
+pub mod Deciding
+pub mod Finding
+pub mod Typing

@@ -6,6 +6,8 @@ use Rattle.java_tree.specs.declared.tree.Head.{Head}
 use Rattle.java_tree.specs.declared.tree.Head.TheVariants as head
 use Rattle.java_tree.specs.Plain as t
 use Rattle.java_tree.specs.Plain.{TypeExpr, TypeExprs}
+use Rattle.class_world.specs.declared.world.JavaType.{JavaType}
+use Rattle.class_world.specs.declared.world.JavaType.TheVariants as ty
 use Rattle.rule_order.specs.declared.Breach.{Breach}
 use Rattle.rule_order.specs.First.{Breaches, Either, IsFirst}
 use Rattle.written_types.specs.declared.scope.Named.{Named}
@@ -34,14 +36,22 @@ head_named p (head.Path path) = path_named p path
 
 -- ---- the tests of the rules
 
-abbrev pub ill_by : Place → Named → (arguments : ℕ) → Bool
-ill_by p (named.Primitive q) count = nat_lt 0 count
-ill_by p (named.Variable k) count = nat_lt 0 count
-ill_by p (named.Type c) count = not (takes (p.params c) count)
-ill_by p named.Nothing count = true
+-- whether what is named is a type with so many arguments
+abbrev pub well_by : Place → Named → (arguments : ℕ) → Bool
+well_by p (named.Primitive q) count = takes None count
+well_by p (named.Variable k) count = takes None count
+well_by p (named.Type c) count = takes (p.params c) count
+well_by p named.Nothing count = false
 
 abbrev pub is_ill_named : Place → TypeExpr → Bool
-is_ill_named p (t.Written n h s xs d) = ill_by p (head_named p h) (length_of xs)
+is_ill_named p (t.Written n h s xs d) = not (well_by p (head_named p h) (length_of xs))
+
+-- the type that is named, with these arguments
+abbrev pub made_by : Named → List JavaType → Option JavaType
+made_by (named.Primitive q) args = Some (ty.Prim q)
+made_by (named.Variable k) args = Some (ty.Var k)
+made_by (named.Type c) args = Some (ty.Class c args)
+made_by named.Nothing args = None
 
 abbrev pub has_params : Option ℕ → Bool
 has_params None = false

@@ -62,6 +62,7 @@ fn note_types(
 }
 
 // The first broken rule so far, where this one is next, and broken if `holds` says so.
+#[tactic(auto, using(crate::proofs::Adding::earlier_same))]
 fn noted(first: Option<Breach>, rule: Rule, node: Node, holds: bool) -> Option<Breach>
     ensures { result ≡ spec.noted first (spec.number rule) node holds }
 {
@@ -84,15 +85,11 @@ fn breaks(scope: &Scope<'_>, rule: Rule, x: &TypeExpr) -> bool
     }
 }
 
+#[tactic(auto, using(crate::proofs::Steps::ill_out))]
 fn is_ill_named(scope: &Scope<'_>, x: &TypeExpr) -> bool
     ensures { (p : Place) → IsPlace scope.now p → result ≡ spec.is_ill_named p (type_plain x.now) }
 {
-    let arguments = x.args.len();
-    match scope.head_named(&x.head) {
-        Named::Primitive(_) | Named::Variable(_) => arguments > 0,
-        Named::Type(number) => !scope.takes(number, arguments),
-        Named::Nothing => true,
-    }
+    !scope.is_well_named(scope.head_named(&x.head), x.args.len())
 }
 
 fn is_nested(scope: &Scope<'_>, x: &TypeExpr) -> bool

@@ -5,6 +5,7 @@ ghost use Rattle.java_tree.specs.View as view;
 ghost use Rattle.java_tree.specs.View.{type_plain};
 ghost use Rattle.written_types.specs.Places.{Place, IsPlace};
 ghost use Rattle.written_types.specs.Types as spec;
+ghost use Rattle.written_types.specs.Walk.{made_by};
 
 use crate::scope::{Named, Scope};
 use class_world::JavaType;
@@ -14,6 +15,7 @@ use std::alloc::Global;
 
 /// The type that a written type says, `None` where it or a type within it names none (DR1). `NoMemory` also where a type parameter stands behind 2^32 others.
 #[cycle(types)]
+#[tactic(auto, using(crate::proofs::Steps::type_said))]
 pub fn read_type(
     alloc: Global,
     scope: &Scope<'_>,
@@ -49,6 +51,7 @@ fn read_types(
     Ok(Some(types))
 }
 
+#[tactic(auto, using(crate::proofs::Typing::head_as))]
 fn head_type(
     scope: &Scope<'_>,
     head: &Head,
@@ -56,18 +59,27 @@ fn head_type(
 ) -> Result<Option<JavaType>, NoMemory>
     ensures { (p : Place) → IsPlace scope.now p → IfOk result (λ r. r ≡ spec.head_type p head.now args) }
 {
-    match scope.head_named(head) {
-        Named::Primitive(p) if args.is_empty() => Ok(Some(JavaType::Prim(p))),
-        Named::Variable(at) if args.is_empty() => {
+    let named = scope.head_named(head);
+    if !scope.is_well_named(named, args.len()) {
+        return Ok(None);
+    }
+    made(named, args)
+}
+
+/// The type that is named, with these arguments.
+fn made(named: Named, args: Items<JavaType>) -> Result<Option<JavaType>, NoMemory>
+    ensures { IfOk result (λ r. r ≡ made_by named args) }
+{
+    match named {
+        Named::Primitive(p) => Ok(Some(JavaType::Prim(p))),
+        Named::Variable(at) => {
             let Ok(at) = u32::try_from(at) else {
                 return Err(NoMemory);
             };
             Ok(Some(JavaType::Var(at)))
         }
-        Named::Type(number) if scope.takes(number, args.len()) => {
-            Ok(Some(JavaType::Class(number, args)))
-        }
-        _ => Ok(None),
+        Named::Type(number) => Ok(Some(JavaType::Class(number, args))),
+        Named::Nothing => Ok(None),
     }
 }
 

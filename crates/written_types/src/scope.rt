@@ -80,7 +80,7 @@ impl Scope<'_> {
     }
 
     /// Whether a type stands without arguments or with as many as it has parameters.
-    pub(crate) fn takes(&self, number: u32, arguments: usize) -> bool
+    fn takes(&self, number: u32, arguments: usize) -> bool
         ensures { (p : Place) → IsPlace self.now p → result ≡ types.takes (p.params number) arguments }
     {
         if arguments == 0 {
@@ -89,6 +89,18 @@ impl Scope<'_> {
         match self.params(number) {
             None => false,
             Some(params) => params as usize == arguments,
+        }
+    }
+
+    /// Whether what is named is a type with so many arguments.
+    #[tactic(auto, using(crate::proofs::Places::no_arguments))]
+    pub(crate) fn is_well_named(&self, named: Named, arguments: usize) -> bool
+        ensures { (p : Place) → IsPlace self.now p → result ≡ spec.well_by p named arguments }
+    {
+        match named {
+            Named::Primitive(_) | Named::Variable(_) => arguments == 0,
+            Named::Type(number) => self.takes(number, arguments),
+            Named::Nothing => false,
         }
     }
 }
