@@ -4,3 +4,4 @@ pub mod Places
 pub mod Deciding
 pub mod Finding
 pub mod Typing
+pub mod Few

@@ -5,6 +5,8 @@ mod breaks;
 pub mod laws;
 mod read;
 mod scope;
+#[cfg(test)]
+mod tests;
 
 pub use breaks::{first_ill_named, first_nested};
 pub use read::read_type;
