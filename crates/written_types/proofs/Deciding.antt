@@ -1,6 +1,6 @@
 -- The tests decide what the rules say.
-use Rattle.std.proofs.Common.{◌≡◌, ◌<◌, ℕ, zero, suc, Bool, true, false, not, ◌⊎◌, inl, inr, List, [], ◌∷◌, Option, Some, None, refl, sym, ap, ◌∙◌, arith}
-use Rattle.std.specs.Prelude.{Contains, Decides, nat_lt, nat_eq}
+use Rattle.std.proofs.Common.{◌≡◌, ◌<◌, ℕ, zero, suc, Bool, true, false, not, ◌⊎◌, inl, inr, [], ◌∷◌, Option, Some, None, refl, sym, ap, ◌∙◌, arith}
+use Rattle.std.specs.Prelude.{Decides, nat_lt}
 use Rattle.std.proofs.lemmas.Bool.Decides.{Decides-ltb, Decides-or, nat_tests}
 use Rattle.java_tree.specs.declared.tree.Name.{Name}
 use Rattle.java_tree.specs.declared.tree.Head.{Head}

@@ -1,5 +1,5 @@
 -- A program of a few types, as tests have it.
-use Rattle.std.proofs.Common.{◌≡◌, ℕ, ◌+◌, ◌<◌, ◌≤◌, ◌^◌, List, [], ◌∷◌, ◌++◌, map, length, ap, ◌∙◌, refl, true, false, arith}
+use Rattle.std.proofs.Common.{◌≡◌, ◌<◌, ◌≤◌, ◌^◌, [], ◌∷◌, ◌++◌, map, length, ap, ◌∙◌, refl, true, false, arith}
 use Rattle.std.proofs.lemmas.List.{length-map, length-append}
 use Rattle.java_tree.specs.declared.tree.SourceUnit.{SourceUnit}
 use Rattle.java_tree.specs.View.{unit_plain, decl_plain}

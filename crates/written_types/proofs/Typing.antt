@@ -1,6 +1,6 @@
 -- A written type says a type exactly where DR1 is broken nowhere within it.
-use Rattle.std.proofs.Common.{◌≡◌, ℕ, zero, suc, Bool, true, false, not, cond, ◌⊎◌, inl, inr, List, [], ◌∷◌, length, Option, Some, None, refl, sym, ap, ◌∙◌, subst}
-use Rattle.std.specs.Prelude.{option_and_then, Decides}
+use Rattle.std.proofs.Common.{◌≡◌, ℕ, suc, Bool, true, false, not, cond, inl, inr, List, [], ◌∷◌, length, Option, Some, None, refl, sym, ap, ◌∙◌}
+use Rattle.std.specs.Prelude.{option_and_then}
 use Rattle.std.specs.Option.{option_map}
 use Rattle.java_tree.specs.declared.tree.Head.{Head}
 use Rattle.java_tree.specs.declared.tree.Head.TheVariants as head
@@ -8,10 +8,9 @@ use Rattle.java_tree.specs.Plain as t
 use Rattle.java_tree.specs.Plain.{TypeExpr, TypeExprs}
 use Rattle.class_world.specs.declared.world.JavaType.{JavaType}
 use Rattle.class_world.specs.declared.world.JavaType.TheVariants as ty
-use Rattle.rule_order.specs.declared.Breach.{Breach}
 use Rattle.written_types.specs.Places.{Place}
-use Rattle.written_types.specs.Types.{variable, takes, arrays, named_type, head_type, joined, type_of, types_of}
-use Rattle.written_types.specs.Breaks.{length_of, node_of, IsOneOf, IsArgument, IsWithin, itself, below, IsIllNamed, IllNamed, IsTypedWhereNamed}
+use Rattle.written_types.specs.Types.{variable, arrays, named_type, head_type, joined, type_of, types_of}
+use Rattle.written_types.specs.Breaks.{length_of, node_of, IsOneOf, IsArgument, IsWithin, itself, below, IsIllNamed, IsTypedWhereNamed}
 use Rattle.written_types.specs.declared.scope.Named.{Named}
 use Rattle.written_types.specs.declared.scope.Named.TheVariants as named
 use Rattle.written_types.specs.Walk.{named_by, head_named, well_by, made_by}

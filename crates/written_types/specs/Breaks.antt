@@ -1,5 +1,5 @@
 -- The rules on written types: DR1, that each names a type, and S12, that an argument is neither an array type nor of a generic type.
-use Rattle.std.specs.Prelude.{◌≡◌, ℕ, zero, suc, ◌<◌, ◌⊎◌, ◌↔◌, List, [], ◌∷◌, Option, Some, Contains}
+use Rattle.std.specs.Prelude.{◌≡◌, ℕ, zero, suc, ◌<◌, ◌⊎◌, ◌↔◌, [], ◌∷◌, Some, Contains}
 use Rattle.java_tree.specs.declared.tree.Node.{Node}
 use Rattle.java_tree.specs.declared.tree.Name.{Name}
 use Rattle.java_tree.specs.declared.tree.Head.{Head}

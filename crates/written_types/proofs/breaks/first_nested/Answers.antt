@@ -1,4 +1,4 @@
-use Rattle.std.proofs.Common.{◌≡◌, None, sym, ap, ◌∙◌, subst}
+use Rattle.std.proofs.Common.{None, sym, ap, ◌∙◌, subst}
 use Rattle.java_tree.specs.View.{type_plain}
 use Rattle.rule_order.specs.First.{IsFirst}
 use Rattle.written_types.specs.Breaks.{Nested}

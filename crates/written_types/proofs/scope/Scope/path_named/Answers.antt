@@ -1,4 +1,4 @@
-use Rattle.std.proofs.Common.{◌≡◌, ◌∙◌, sym, arith}
+use Rattle.std.proofs.Common.{◌∙◌, sym, arith}
 use Rattle.written_types.proofs.Places.{path_one}
 use Rattle.written_types.proofs.scope.Scope.path_named.Goals as goal
 
