@@ -1,0 +1,7 @@
+pub mod Adding
+pub mod Steps
+pub mod Places
+pub mod Deciding
+pub mod Finding
+pub mod Typing
+pub mod Few
