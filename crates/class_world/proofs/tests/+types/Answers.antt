@@ -1,4 +1,4 @@
-use Rattle.std.proofs.Common.{◌≡◌, ℕ, ◌<◌, ◌⊎◌, List, [], Some, refl, sym, ap, ◌∙◌, subst, length, slice_get}
+use Rattle.std.proofs.Common.{◌≡◌, ℕ, ◌⊎◌, List, [], Some, sym, ap, ◌∙◌, subst, length, slice_get}
 use Rattle.std.proofs.lemmas.Bool.{ltb-true}
 use Rattle.class_world.specs.Types.{AreReferences, IsTypeOver, a_primitive, a_class, a_variable, an_array}
 use Rattle.class_world.specs.declared.world.World.{World}

@@ -1,8 +1,6 @@
 use Rattle.std.proofs.Common.{◌≡◌, ℕ, ◌+◌, ◌<◌, ◌⊎◌, inl, inr, Some, sym, ap, ◌∙◌, subst, slice_get, arith}
 use Rattle.std.proofs.lemmas.Option.{slice_get_within}
-use Rattle.class_world.specs.Sound.{IsSuper}
 use Rattle.class_world.specs.declared.world.TypeInfo.{TypeInfo}
-use Rattle.class_world.specs.declared.world.JavaType.{JavaType}
 use Rattle.class_world.proofs.tests.are_fine.Goals as goal
 
 lower_or_last : (k i : ℕ) → k < i + 1 → (k < i) ⊎ (k ≡ i)
