@@ -1,5 +1,5 @@
 -- A class's row, from the rows of its declared supertypes.
-use Rattle.std.proofs.Common.{◌≡◌, ℕ, ◌+◌, ◌/◌, ◌<◌, ◌≤◌, zero, suc, List, [], ◌∷◌, ◌++◌, Some, ◌⊎◌, ◌↔◌, inl, inr, map, refl, sym, ap, ◌∙◌, subst, length, arith}
+use Rattle.std.proofs.Common.{◌≡◌, ℕ, ◌+◌, ◌/◌, ◌<◌, ◌≤◌, zero, suc, List, [], ◌∷◌, ◌++◌, Some, ◌⊎◌, ◌↔◌, inl, inr, refl, sym, ap, ◌∙◌, subst, length, arith}
 use Rattle.std.specs.Prelude.{slice_get, slice_index_or as get_or}
 use Rattle.std.proofs.lemmas.Option.{slice_get_read, slice_get_within}
 use Rattle.class_world.specs.declared.world.World.{World}
@@ -7,9 +7,9 @@ use Rattle.class_world.specs.declared.world.TypeInfo.{TypeInfo}
 use Rattle.class_world.specs.declared.world.Above.{Above}
 use Rattle.class_world.specs.declared.world.JavaType.{JavaType}
 use Rattle.class_world.specs.declared.world.JavaType.TheVariants as ty
-use Rattle.class_world.specs.Types.{object_type, substitute, erased, variables, with_own, of_class, IsTypeOver}
+use Rattle.class_world.specs.Types.{erased, variables, with_own, of_class, IsTypeOver}
 use Rattle.class_world.specs.Subtypes.{Subtype, same, through, declared, object, raw, IsDeclaredSuper, Parameterizes, IsBelowTwo}
-use Rattle.class_world.specs.Sound.{AreSupers, IsSuper, IsSet, IsRow, IsSingle, AreBases, ArePutBases}
+use Rattle.class_world.specs.Sound.{AreSupers, IsSuper, IsSet, IsRow, IsSingle, AreBases}
 use Rattle.class_world.specs.Merged.{Sets, IsListed, AreParameterized, AreSingle, IsPutOf, GainsPut, Clash, AreWithin, HasRow, HaveRows, AmongFirst, IsBase}
 use Rattle.class_world.proofs.Forms.{same_class}
 use Rattle.class_world.proofs.Substs.{erased_class, variables_length}

@@ -1,5 +1,5 @@
 -- What the order's questions come to, form by form.
-use Rattle.std.proofs.Common.{◌≡◌, ℕ, ◌+◌, ◌/◌, ◌%◌, ◌<◌, ◌≤◌, zero, suc, List, [], ◌∷◌, Option, Some, None, ◌⊎◌, ◌↔◌, inl, inr, Bool, true, false, map, refl, sym, ap, ◌∙◌, subst, length, nat_eq, bit_and, arith}
+use Rattle.std.proofs.Common.{◌≡◌, ℕ, ◌/◌, ◌%◌, ◌<◌, ◌≤◌, zero, suc, List, [], ◌∷◌, Option, Some, None, ◌↔◌, inl, inr, Bool, true, false, refl, sym, ap, ◌∙◌, subst, length, nat_eq, bit_and, arith}
 use Rattle.std.specs.Prelude.{slice_get, slice_index_or as get_or, IsTrue, ◌^◌, not, IfSome, IfNone}
 use Rattle.std.specs.Int.{bit_at}
 use Rattle.std.proofs.lemmas.Bool.{eq-eqb}
@@ -17,7 +17,7 @@ use Rattle.class_world.specs.declared.world.JavaType.TheVariants as ty
 use Rattle.class_world.specs.Types.{object_type, substitute, with_own, variables, IsReference, of_class, of_variable, of_array, IsTypeOver, a_primitive, the_null, a_class, a_variable, an_array}
 use Rattle.class_world.specs.Subtypes.{Subtype, same, through, object, raw, null, arrays, Parameterizes, IsSuperAs}
 use Rattle.class_world.specs.Sound.{IsSound, AreBases, AreClasses, IsRow, IsSet, IsOfWorld, IsKnown, ArePutBases}
-use Rattle.class_world.proofs.Forms.{kind, primitive_kind, null_kind, class_kind, variable_kind, array_kind, same_primitive, same_element, same_class, primitive_refers_not, null_refers_not}
+use Rattle.class_world.proofs.Forms.{primitive_kind, null_kind, class_kind, variable_kind, array_kind, same_primitive, same_element, same_class, primitive_refers_not}
 use Rattle.class_world.proofs.Substs.{put_class}
 use Rattle.class_world.proofs.Orders as orders
 use Rattle.class_world.proofs.Orders.{widens, class_parts}

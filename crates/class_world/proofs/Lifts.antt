@@ -1,16 +1,16 @@
 -- How the order goes with arguments put for variables, and with the arguments left away.
-use Rattle.std.proofs.Common.{◌≡◌, ℕ, ◌+◌, ◌<◌, ◌≤◌, zero, suc, List, [], ◌∷◌, Some, ◌⊎◌, ◌↔◌, inl, inr, map, refl, sym, ap, ◌∙◌, subst, length, arith}
+use Rattle.std.proofs.Common.{◌≡◌, ℕ, zero, suc, List, [], Some, inl, inr, map, refl, sym, ap, ◌∙◌, subst, length, arith}
 use Rattle.std.specs.Prelude.{slice_get}
 use Rattle.java_tree.specs.declared.tree.Primitive.TheVariants as prim
 use Rattle.class_world.specs.declared.world.World.{World}
 use Rattle.class_world.specs.declared.world.TypeInfo.{TypeInfo}
 use Rattle.class_world.specs.declared.world.JavaType.{JavaType}
 use Rattle.class_world.specs.declared.world.JavaType.TheVariants as ty
-use Rattle.class_world.specs.Types.{object_type, substitute, erased, variables, with_own, IsReference, of_class, of_array, AreReferences, IsTypeOver}
+use Rattle.class_world.specs.Types.{substitute, erased, variables, with_own, of_class, AreReferences, IsTypeOver}
 use Rattle.class_world.specs.Subtypes.{Subtype, same, through, declared, object, raw, null, arrays, char_int, int_long, IsDeclaredSuper, IsSeenAs, Parameterizes}
-use Rattle.class_world.specs.Sound.{AreSupers, IsSingle, IsSuper, AreBases, ArePutBases}
-use Rattle.class_world.proofs.Forms.{kind, primitive_kind, null_kind, class_kind, array_kind, same_class}
-use Rattle.class_world.proofs.Substs.{put_primitive, put_null, put_class, put_array, put_twice, put_own, put_refers, erased_class, length_map, none_left, variables_length}
+use Rattle.class_world.specs.Sound.{AreSupers, IsSingle, AreBases, ArePutBases}
+use Rattle.class_world.proofs.Forms.{primitive_kind, null_kind, class_kind, array_kind, same_class}
+use Rattle.class_world.proofs.Substs.{put_primitive, put_null, put_class, put_array, put_twice, put_own, put_refers, erased_class, length_map, none_left}
 use Rattle.class_world.proofs.Orders.{class_parts, bare_over, object_over, own_over, declared_above}
 
 module _ (w : World) (sound : AreSupers w) where

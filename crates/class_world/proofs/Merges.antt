@@ -7,7 +7,7 @@ use Rattle.class_world.specs.declared.world.JavaType.{JavaType}
 use Rattle.class_world.specs.declared.world.JavaType.TheVariants as ty
 use Rattle.class_world.specs.Types.{substitute}
 use Rattle.class_world.specs.Subtypes.{Parameterizes}
-use Rattle.class_world.specs.Merged.{IsListed, AreParameterized, AreSingle, Gains, GainsPut, IsPutOf, Clash, ClashOne}
+use Rattle.class_world.specs.Merged.{IsListed, AreParameterized, AreSingle, Gains, GainsPut, Clash, ClashOne}
 use Rattle.class_world.proofs.Forms.{same_class}
 use Rattle.class_world.proofs.Substs.{put_class, none_left}
 

@@ -1,5 +1,5 @@
 -- What is above a type of each form, and how the order goes with arguments put for variables.
-use Rattle.std.proofs.Common.{◌≡◌, ℕ, ◌+◌, ◌<◌, ◌≤◌, zero, suc, List, [], ◌∷◌, Some, ◌⊎◌, ◌↔◌, inl, inr, Bool, true, false, map, refl, sym, ap, ◌∙◌, subst, length, arith}
+use Rattle.std.proofs.Common.{◌≡◌, ℕ, ◌<◌, ◌≤◌, List, [], Some, ◌⊎◌, inl, inr, Bool, true, false, map, refl, sym, ap, ◌∙◌, subst, length, arith}
 use Rattle.std.specs.Prelude.{slice_get}
 use Rattle.java_tree.specs.declared.tree.Primitive.{Primitive}
 use Rattle.java_tree.specs.declared.tree.Primitive.TheVariants as prim
@@ -7,10 +7,10 @@ use Rattle.class_world.specs.declared.world.World.{World}
 use Rattle.class_world.specs.declared.world.TypeInfo.{TypeInfo}
 use Rattle.class_world.specs.declared.world.JavaType.{JavaType}
 use Rattle.class_world.specs.declared.world.JavaType.TheVariants as ty
-use Rattle.class_world.specs.Types.{object_type, substitute, erased, variables, with_own, IsReference, of_class, of_variable, of_array, AreReferences, IsTypeOver, a_primitive, the_null, a_class, a_variable, an_array}
-use Rattle.class_world.specs.Subtypes.{Subtype, same, through, declared, object, raw, null, arrays, char_int, int_long, IsDeclaredSuper, IsSeenAs, Parameterizes}
+use Rattle.class_world.specs.Types.{object_type, substitute, erased, with_own, IsReference, of_class, of_variable, of_array, AreReferences, IsTypeOver, a_primitive, the_null, a_class, a_variable, an_array}
+use Rattle.class_world.specs.Subtypes.{Subtype, same, through, declared, object, raw, null, arrays, char_int, int_long, IsDeclaredSuper}
 use Rattle.class_world.specs.Sound.{AreSupers}
-use Rattle.class_world.proofs.Forms.{Kind, kind, primitive_kind, null_kind, class_kind, variable_kind, array_kind, same_primitive, same_variable, same_element, same_class, primitive_refers_not, null_refers_not}
+use Rattle.class_world.proofs.Forms.{primitive_kind, null_kind, class_kind, variable_kind, array_kind, same_primitive, same_element, same_class, primitive_refers_not, null_refers_not}
 use Rattle.std.proofs.lemmas.Option.{slice_get_within}
 use Rattle.class_world.proofs.Substs as sub
 use Rattle.class_world.proofs.Substs.{put_class, put_closed, put_twice, put_own, put_refers, mapped_refer, mapped_at, erased_class, length_map, none_left, variables_length, variables_at}

@@ -1,19 +1,17 @@
 -- What is above a class comes over its declared supertypes.
-use Rattle.std.proofs.Common.{◌≡◌, ℕ, ◌+◌, ◌<◌, ◌≤◌, zero, suc, List, [], ◌∷◌, Some, ◌⊎◌, ◌↔◌, inl, inr, map, refl, sym, ap, ◌∙◌, subst, length, arith}
-use Rattle.std.specs.Prelude.{slice_get}
+use Rattle.std.proofs.Common.{◌≡◌, ℕ, ◌+◌, List, [], ◌∷◌, ◌⊎◌, inl, inr, map, refl, sym, ap, ◌∙◌, subst, length, arith}
 use Rattle.java_tree.specs.declared.tree.Primitive.TheVariants as prim
 use Rattle.class_world.specs.declared.world.World.{World}
 use Rattle.class_world.specs.declared.world.TypeInfo.{TypeInfo}
 use Rattle.class_world.specs.declared.world.JavaType.{JavaType}
 use Rattle.class_world.specs.declared.world.JavaType.TheVariants as ty
-use Rattle.class_world.specs.Subclasses.{IsDirectSuper}
-use Rattle.class_world.specs.Types.{object_type, substitute, erased, variables, with_own, IsReference, of_class, IsTypeOver, a_primitive, the_null, a_class, a_variable, an_array}
-use Rattle.class_world.specs.Subtypes.{Subtype, same, through, declared, object, raw, null, arrays, char_int, int_long, IsDeclaredSuper, Parameterizes}
+use Rattle.class_world.specs.Types.{object_type, substitute, erased, variables, IsTypeOver, a_primitive, the_null, a_class, a_variable, an_array}
+use Rattle.class_world.specs.Subtypes.{Subtype, same, through, declared, object, raw, null, arrays, char_int, int_long, IsDeclaredSuper}
 use Rattle.class_world.specs.Sound.{AreSupers}
 use Rattle.class_world.proofs.Forms.{primitive_kind, null_kind, class_kind, array_kind, same_class}
-use Rattle.class_world.proofs.Substs.{put_primitive, put_null, put_class, put_array, put_at, put_closed, map_same, there_is, erased_class, variables_length, variables_at}
-use Rattle.class_world.proofs.Orders.{class_parts, bare_over, own_over, object_above}
-use Rattle.class_world.proofs.Lifts.{bare_declared, bare}
+use Rattle.class_world.proofs.Substs.{put_primitive, put_null, put_class, put_array, put_at, map_same, there_is, erased_class, variables_length, variables_at}
+use Rattle.class_world.proofs.Orders.{class_parts, bare_over, object_above}
+use Rattle.class_world.proofs.Lifts.{bare}
 
 -- a class's own variables put for themselves
 pub put_same : (w : World) (n : ℕ) (t : JavaType) → IsTypeOver w n t → substitute (variables 0 n) t ≡ t

@@ -6,9 +6,9 @@ use Rattle.class_world.specs.declared.world.Above.{Above}
 use Rattle.class_world.specs.declared.world.JavaType.{JavaType}
 use Rattle.class_world.specs.declared.world.JavaType.TheVariants as ty
 use Rattle.class_world.specs.Subclasses.{IsDirectSuper}
-use Rattle.class_world.specs.Types.{substitute, with_own}
-use Rattle.class_world.specs.Subtypes.{Subtype, Parameterizes, IsBelowTwo}
-use Rattle.class_world.specs.Sound.{IsSet, IsRow, IsSingle}
+use Rattle.class_world.specs.Types.{substitute}
+use Rattle.class_world.specs.Subtypes.{Subtype, Parameterizes}
+use Rattle.class_world.specs.Sound.{IsSet, IsRow}
 
 abbrev pub IsListed : List JavaType → JavaType → Type 0
 IsListed ts t = (k : ℕ) × (slice_get ts k ≡ Some t)

@@ -1,5 +1,4 @@
 -- What the sorting of the classes answers.
-use Rattle.std.specs.Prelude.{ℕ}
 use Rattle.class_world.specs.declared.world.World.{World}
 use Rattle.class_world.specs.declared.sequence.Sorted.{Sorted}
 use Rattle.class_world.specs.declared.sequence.Sorted.TheVariants as answer

@@ -1,16 +1,20 @@
-//! A world made by hand: `class Object {}`, `class A { first() second() }` and `class B extends A { first() }`.
+//! Worlds made by hand: `class Object {}`, `class A { first() second() }` and `class B extends A { first() }`; and one of generic types like the library's.
 
-ghost use Rattle.std.specs.Prelude.{◌≡◌, ◌<◌, ◌^◌, [], ◌∷◌, length, IfOk};
+ghost use Rattle.std.specs.Prelude.{◌≡◌, ℕ, ◌<◌, ◌^◌, ◌⊎◌, [], ◌∷◌, Some, length, slice_get, IsTrue, IfOk};
+ghost use Rattle.class_world.specs.Types.{AreReferences, IsReference, IsTypeOver};
+ghost use Rattle.class_world.specs.Sound.{AreSupers, IsSound, IsSuper};
+ghost use Rattle.class_world.specs.declared.world.TypeInfo.{TypeInfo};
+ghost use Rattle.class_world.specs.declared.order_table.Ordered.TheVariants as answer;
 ghost use Rattle.class_world.specs.Names.{ListsMethods};
 ghost use Rattle.class_world.specs.Subclasses.{IsClassTree};
 ghost use Rattle.class_world.specs.declared.world.JavaType.TheVariants as ty;
 
 use crate::{
-    JavaType, MethodInfo, MethodTable, TypeInfo, World, find_method, is_below, is_sub_class,
-    member_names, superclass,
+    JavaType, MethodInfo, MethodTable, Ordered, TypeInfo, World, erase, find_method, fits,
+    is_below, is_same, is_sub, is_sub_class, member_names, super_as, superclass, with_order,
 };
-use java_tree::tree::Name;
-use java_tree::{Items, NoMemory};
+use java_tree::tree::{Name, Primitive};
+use java_tree::{Boxed, Items, NoMemory};
 use std::alloc::Global;
 use std::test::Fail;
 
@@ -115,5 +119,572 @@ fn no_table_where_a_class_declares_a_method_twice(rt: HostRuntime) -> Result<(),
     let methods = vec![in alloc; method(alloc, 1, 0), method(alloc, 1, 0)]?;
     let w = world(alloc, Vec::new(alloc), methods);
     assert!(rt; MethodTable::of(alloc, &w)?.is_none());
+    Ok(())
+}
+
+/// Whether it is a type of the world, and not the null type.
+#[cycle(types)]
+fn is_type(w: &World, n: u32, t: &JavaType) -> bool
+    ensures { IsTrue result → IsTypeOver w.now n t.now × (t.now ≡ ty.Null → ⊥) }
+{
+    match t {
+        JavaType::Prim(_) => true,
+        JavaType::Null => false,
+        JavaType::Class(c, xs) => {
+            may_have(w, *c, xs.as_slice()) && are_arguments(w, n, xs.as_slice())
+        }
+        JavaType::Var(k) => *k < n,
+        JavaType::Array(x) => is_type(w, n, x.get()),
+    }
+}
+
+#[cycle(types)]
+fn are_arguments(w: &World, n: u32, xs: &[JavaType]) -> bool
+    ensures { IsTrue result → AreReferences xs.now × ((k : ℕ) (a : JavaType) → slice_get xs.now k ≡ Some a → IsTypeOver w.now n a) }
+{
+    match xs.split_first() {
+        None => true,
+        Some((x, xs)) => is_argument(x) && is_type(w, n, x) && are_arguments(w, n, xs),
+    }
+}
+
+fn is_argument(t: &JavaType) -> bool
+    ensures { IsTrue result → IsReference t.now }
+{
+    match t {
+        JavaType::Prim(_) => false,
+        JavaType::Null => false,
+        JavaType::Class(_, _) => true,
+        JavaType::Var(_) => true,
+        JavaType::Array(_) => true,
+    }
+}
+
+/// Whether the class has as many parameters as there are arguments.
+fn has_count(w: &World, c: u32, xs: &[JavaType]) -> bool
+    ensures { IsTrue result → (info : TypeInfo) × (slice_get w.now.types c ≡ Some info) × (length xs.now ≡ info.params) }
+{
+    match w.types.get(c as usize) {
+        None => false,
+        Some(info) => xs.len() == info.params as usize,
+    }
+}
+
+/// Whether the class may have these arguments, or none.
+fn may_have(w: &World, c: u32, xs: &[JavaType]) -> bool
+    ensures { IsTrue result → (info : TypeInfo) × (slice_get w.now.types c ≡ Some info) × ((xs.now ≡ []) ⊎ (length xs.now ≡ info.params)) }
+{
+    match w.types.get(c as usize) {
+        None => false,
+        Some(info) => xs.is_empty() || xs.len() == info.params as usize,
+    }
+}
+
+fn is_super(w: &World, n: u32, d: &JavaType) -> bool
+    ensures { IsTrue result → IsSuper w.now n d.now }
+{
+    match d {
+        JavaType::Class(g, xs) => has_count(w, *g, xs.as_slice()) && is_type(w, n, d),
+        _ => false,
+    }
+}
+
+fn are_supers_of(w: &World, n: u32, ds: &[JavaType]) -> bool
+    ensures { IsTrue result → (k : ℕ) (d : JavaType) → slice_get ds.now k ≡ Some d → IsSuper w.now n d }
+{
+    match ds.split_first() {
+        None => true,
+        Some((d, ds)) => is_super(w, n, d) && are_supers_of(w, n, ds),
+    }
+}
+
+fn class_is_fine(w: &World, c: usize) -> bool
+    ensures { IsTrue result → (info : TypeInfo) → slice_get w.now.types c ≡ Some info → ((k : ℕ) (d : JavaType) → slice_get info.supers k ≡ Some d → IsSuper w.now info.params d) }
+{
+    match w.types.get(c) {
+        None => true,
+        Some(info) => are_supers_of(w, info.params, info.supers.as_slice()),
+    }
+}
+
+fn top_is_fine(w: &World) -> bool
+    ensures { IsTrue result → (info : TypeInfo) → slice_get w.now.types 0 ≡ Some info → (info.params ≡ 0) × (info.supers ≡ []) }
+{
+    match w.types.get(0) {
+        None => true,
+        Some(info) => info.params == 0 && info.supers.is_empty(),
+    }
+}
+
+fn are_fine(w: &World) -> bool
+    ensures { IsTrue result → AreSupers w.now }
+{
+    for c in 0..w.types.len() {
+        if !class_is_fine(w, c) {
+            return false;
+        }
+    }
+    top_is_fine(w)
+}
+
+fn is_null_or_type(w: &World, t: &JavaType) -> bool
+    ensures { IsTrue result → IsTypeOver w.now 2 t.now }
+{
+    match t {
+        JavaType::Null => true,
+        _ => is_type(w, 2, t),
+    }
+}
+
+/// Whether one type is below the other, and whether it fits it; `None` where they are no types of the world.
+fn asked(w: &World, s: &JavaType, t: &JavaType) -> Option<(bool, bool)>
+    requires { IsSound w.now }
+{
+    if !is_null_or_type(w, s) || !is_null_or_type(w, t) {
+        return None;
+    }
+    Some((is_sub(w, s, t), fits(w, s, t)))
+}
+
+fn supertype(alloc: Global, w: &World, t: &JavaType, g: u32) -> Result<Option<JavaType>, Fail>
+    requires { IsSound w.now }
+{
+    if !is_type(w, 2, t) {
+        return Err("no type".into());
+    }
+    Ok(super_as(alloc, w, t, g)?)
+}
+
+fn ordered(alloc: Global, types: Vec<TypeInfo>) -> Result<Ordered, Fail>
+    ensures { IfOk result (λ r. (w : World) → r ≡ answer.Sound w → IsSound w) }
+{
+    let w = world(alloc, types, Vec::new(alloc));
+    if w.types.len() > 1000 || !are_fine(&w) {
+        return Err("a wrong supertype".into());
+    }
+    Ok(with_order(alloc, w)?)
+}
+
+fn library(alloc: Global) -> Result<World, Fail>
+    ensures { IfOk result (λ w. IsSound w) }
+{
+    match ordered(alloc, declared(alloc, LIBRARY.as_slice())?)? {
+        Ordered::Sound(w) => Ok(w),
+        _ => Err("no order".into()),
+    }
+}
+
+fn generic(alloc: Global, params: u32, supers: Vec<JavaType>) -> TypeInfo {
+    TypeInfo {
+        name: Name(0),
+        package: Items::new(alloc),
+        interface: false,
+        mods: Items::new(alloc),
+        user: true,
+        params,
+        supers: Items::from_vec(supers),
+        methods: Items::new(alloc),
+        fields: Items::new(alloc),
+        node: None,
+    }
+}
+
+fn array(alloc: Global, x: JavaType) -> Result<JavaType, NoMemory> {
+    Ok(JavaType::Array(Boxed::new(alloc, x)?))
+}
+
+/// A step that puts a type on a stack; `One`, `Two` and `Array` take the last ones from it.
+enum Step {
+    Prim(Primitive),
+    Null,
+    Bare(u32),
+    One(u32),
+    Two(u32),
+    Var(u32),
+    Array,
+}
+
+fn last(stack: &mut Vec<JavaType>) -> Result<JavaType, Fail> {
+    Ok(stack.pop().ok_or("an empty stack")?)
+}
+
+fn two(alloc: Global, x: JavaType, y: JavaType) -> Result<Items<JavaType>, NoMemory> {
+    Ok(Items::from_vec(vec![in alloc; x, y]?))
+}
+
+fn parameterized(alloc: Global, stack: &mut Vec<JavaType>, c: u32) -> Result<JavaType, Fail> {
+    let y = last(stack)?;
+    let x = last(stack)?;
+    Ok(JavaType::Class(c, two(alloc, x, y)?))
+}
+
+fn made(alloc: Global, stack: &mut Vec<JavaType>, step: &Step) -> Result<JavaType, Fail> {
+    match step {
+        Step::Prim(p) => Ok(JavaType::Prim(*p)),
+        Step::Null => Ok(JavaType::Null),
+        Step::Bare(c) => Ok(class_type(alloc, *c)),
+        Step::One(c) => Ok(JavaType::Class(*c, Items::one(alloc, last(stack)?)?)),
+        Step::Two(c) => parameterized(alloc, stack, *c),
+        Step::Var(k) => Ok(JavaType::Var(*k)),
+        Step::Array => Ok(array(alloc, last(stack)?)?),
+    }
+}
+
+/// What stands on the stack after the steps.
+fn built(alloc: Global, steps: &[Step]) -> Result<Vec<JavaType>, Fail> {
+    let mut stack = Vec::new(alloc);
+    for step in steps {
+        let t = made(alloc, &mut stack, step)?;
+        stack.push(t)?;
+    }
+    Ok(stack)
+}
+
+/// Classes of so many parameters, with these supertypes.
+fn declared(alloc: Global, classes: &[(u32, &[Step])]) -> Result<Vec<TypeInfo>, Fail> {
+    let mut types = Vec::new(alloc);
+    for class in classes {
+        let supers = built(alloc, class.1)?;
+        types.push(generic(alloc, class.0, supers))?;
+    }
+    Ok(types)
+}
+
+// the classes of the second world
+const ITERABLE: u32 = 1;
+
+const COLLECTION: u32 = 2;
+
+const LIST: u32 = 3;
+
+const ABSTRACT_LIST: u32 = 4;
+
+const ARRAY_LIST: u32 = 5;
+
+const COMPARABLE: u32 = 6;
+
+const CHAR_SEQUENCE: u32 = 7;
+
+const STRING: u32 = 8;
+
+const NAMES: u32 = 9;
+
+const PAIR: u32 = 10;
+
+const SWAPPED: u32 = 11;
+
+const MATRIX: u32 = 12;
+
+const PLAIN: u32 = 13;
+
+const CRATE: u32 = 14;
+
+/// Object, `Iterable<T>`, `Collection<E> extends Iterable<E>`, `List<E> extends Collection<E>`, `AbstractList<E> implements List<E>`, `ArrayList<E> extends AbstractList<E> implements List<E>`, `Comparable<T>`, CharSequence, `String implements Comparable<String>, CharSequence`, `Names extends ArrayList<String>`, `Pair<A, B> implements Comparable<Pair<A, B>>`, `Swapped<A, B> extends Pair<B, A>`, `Matrix<T> extends ArrayList<List<T>>`, `Plain implements Comparable<Plain>` and `Crate<T> extends Plain`.
+const LIBRARY: [(u32, &[Step]); 15] = [
+    (0, &[]),
+    (1, &[]),
+    (1, &[Step::Var(0), Step::One(ITERABLE)]),
+    (1, &[Step::Var(0), Step::One(COLLECTION)]),
+    (1, &[Step::Var(0), Step::One(LIST)]),
+    (
+        1,
+        &[
+            Step::Var(0),
+            Step::One(ABSTRACT_LIST),
+            Step::Var(0),
+            Step::One(LIST),
+        ],
+    ),
+    (1, &[]),
+    (0, &[]),
+    (
+        0,
+        &[
+            Step::Bare(STRING),
+            Step::One(COMPARABLE),
+            Step::Bare(CHAR_SEQUENCE),
+        ],
+    ),
+    (0, &[Step::Bare(STRING), Step::One(ARRAY_LIST)]),
+    (
+        2,
+        &[
+            Step::Var(0),
+            Step::Var(1),
+            Step::Two(PAIR),
+            Step::One(COMPARABLE),
+        ],
+    ),
+    (2, &[Step::Var(1), Step::Var(0), Step::Two(PAIR)]),
+    (1, &[Step::Var(0), Step::One(LIST), Step::One(ARRAY_LIST)]),
+    (0, &[Step::Bare(PLAIN), Step::One(COMPARABLE)]),
+    (1, &[Step::Bare(PLAIN)]),
+];
+
+/// The types that the questions name by their places.
+const SAMPLES: &[Step] = &[
+    Step::Bare(0),
+    Step::Bare(STRING),
+    Step::Bare(CHAR_SEQUENCE),
+    Step::Bare(STRING),
+    Step::One(LIST),
+    Step::Bare(0),
+    Step::One(LIST),
+    Step::Bare(LIST),
+    Step::Bare(STRING),
+    Step::One(ARRAY_LIST),
+    Step::Bare(ARRAY_LIST),
+    Step::Bare(STRING),
+    Step::One(ITERABLE),
+    Step::Bare(ITERABLE),
+    Step::Bare(NAMES),
+    Step::Bare(STRING),
+    Step::One(COMPARABLE),
+    Step::Bare(COMPARABLE),
+    Step::Bare(STRING),
+    Step::Bare(0),
+    Step::Two(PAIR),
+    Step::Bare(0),
+    Step::Bare(STRING),
+    Step::Two(SWAPPED),
+    Step::Bare(STRING),
+    Step::Bare(0),
+    Step::Two(PAIR),
+    Step::One(COMPARABLE),
+    Step::Bare(STRING),
+    Step::One(MATRIX),
+    Step::Bare(STRING),
+    Step::One(LIST),
+    Step::One(LIST),
+    Step::Bare(STRING),
+    Step::One(LIST),
+    Step::One(ITERABLE),
+    Step::Bare(STRING),
+    Step::One(CRATE),
+    Step::Bare(CRATE),
+    Step::Bare(PLAIN),
+    Step::Bare(PLAIN),
+    Step::One(COMPARABLE),
+    Step::Bare(STRING),
+    Step::Array,
+    Step::Bare(0),
+    Step::Array,
+    Step::Prim(Primitive::Int),
+    Step::Array,
+    Step::Prim(Primitive::Long),
+    Step::Array,
+    Step::Prim(Primitive::Int),
+    Step::Prim(Primitive::Long),
+    Step::Prim(Primitive::Char),
+    Step::Prim(Primitive::Boolean),
+    Step::Var(0),
+    Step::Var(0),
+    Step::One(LIST),
+    Step::Var(0),
+    Step::One(ARRAY_LIST),
+    Step::Bare(STRING),
+    Step::Array,
+    Step::Array,
+    Step::Bare(STRING),
+    Step::One(LIST),
+    Step::Array,
+    Step::Bare(STRING),
+    Step::One(ARRAY_LIST),
+    Step::Array,
+    Step::Bare(LIST),
+    Step::Array,
+    Step::Prim(Primitive::Char),
+    Step::Array,
+    Step::Bare(LIST),
+    Step::One(ITERABLE),
+    Step::Null,
+];
+
+/// Two samples by their places, whether the first is a subtype of the second (JLS 4.10), and whether javac 17 lets it be assigned to it. For `Crate` and `Comparable<Plain>` javac warns of an unchecked conversion, since it erases all that is above a raw type.
+const QUESTIONS: &[(usize, usize, bool, bool)] = &[
+    (6, 3, true, true),
+    (6, 4, false, false),
+    (6, 5, true, true),
+    (5, 3, false, true),
+    (7, 3, false, true),
+    (7, 5, true, true),
+    (7, 9, true, true),
+    (3, 6, false, false),
+    (5, 6, false, false),
+    (10, 3, true, true),
+    (10, 8, true, true),
+    (10, 4, false, false),
+    (10, 5, true, true),
+    (1, 11, true, true),
+    (1, 12, true, true),
+    (1, 2, true, true),
+    (1, 0, true, true),
+    (11, 1, false, false),
+    (14, 13, true, true),
+    (13, 14, false, false),
+    (14, 15, true, true),
+    (13, 15, true, true),
+    (16, 17, true, true),
+    (16, 18, true, true),
+    (16, 3, false, false),
+    (16, 39, false, false),
+    (19, 21, true, true),
+    (19, 22, true, true),
+    (20, 22, true, true),
+    (20, 19, false, true),
+    (19, 20, true, true),
+    (21, 19, false, false),
+    (23, 24, true, true),
+    (24, 23, false, false),
+    (25, 26, false, false),
+    (25, 25, true, true),
+    (25, 0, true, true),
+    (25, 24, false, false),
+    (38, 25, false, false),
+    (27, 28, true, true),
+    (29, 27, true, true),
+    (29, 28, true, true),
+    (27, 29, false, false),
+    (30, 27, false, false),
+    (27, 0, false, false),
+    (0, 27, false, false),
+    (31, 0, true, true),
+    (31, 31, true, true),
+    (31, 1, false, false),
+    (33, 32, true, true),
+    (32, 3, false, false),
+    (34, 24, true, true),
+    (34, 23, false, false),
+    (36, 35, true, true),
+    (36, 37, true, true),
+    (40, 3, true, true),
+    (40, 25, true, true),
+    (40, 27, false, false),
+];
+
+/// Samples, classes and the samples that are their supertypes of these classes.
+const SUPERTYPES: &[(usize, u32, usize)] = &[
+    (14, COMPARABLE, 15),
+    (16, ITERABLE, 18),
+    (7, ITERABLE, 9),
+    (20, COMPARABLE, 22),
+    (6, LIST, 3),
+    (25, 0, 0),
+    (31, 0, 0),
+];
+
+fn is_answered(w: &World, ts: &[JavaType], question: &(usize, usize, bool, bool)) -> bool
+    requires { IsSound w.now }
+{
+    match ts.get(question.0) {
+        None => false,
+        Some(s) => match ts.get(question.1) {
+            None => false,
+            Some(t) => asked(w, s, t) == Some((question.2, question.3)),
+        },
+    }
+}
+
+/// The place of the first question with another answer.
+fn wrong_question(
+    w: &World,
+    ts: &[JavaType],
+    questions: &[(usize, usize, bool, bool)],
+) -> Option<usize>
+    requires { IsSound w.now }
+{
+    for place in 0..questions.len() {
+        if !is_answered(w, ts, &questions[place]) {
+            return Some(place);
+        }
+    }
+    None
+}
+
+/// Whether the one sample's supertype of the class is the other sample.
+fn is_supertype(
+    alloc: Global,
+    w: &World,
+    ts: &[JavaType],
+    i: usize,
+    g: u32,
+    j: usize,
+) -> Result<bool, Fail>
+    requires { IsSound w.now }
+{
+    let t = ts.get(i).ok_or("no such type")?;
+    let u = ts.get(j).ok_or("no such type")?;
+    match supertype(alloc, w, t, g)? {
+        Some(found) => Ok(is_same(&found, u)),
+        None => Ok(false),
+    }
+}
+
+fn are_supertypes(
+    alloc: Global,
+    w: &World,
+    ts: &[JavaType],
+    cases: &[(usize, u32, usize)],
+) -> Result<bool, Fail>
+    requires { IsSound w.now }
+{
+    for case in cases {
+        if !is_supertype(alloc, w, ts, case.0, case.1, case.2)? {
+            return Ok(false);
+        }
+    }
+    Ok(true)
+}
+
+#[test]
+fn types_are_ordered_as_javac_has_them(rt: HostRuntime) -> Result<(), Fail> {
+    let alloc = rt.alloc();
+    let w = library(alloc)?;
+    let ts = built(alloc, SAMPLES)?;
+    assert_eq!(rt; ts.len(), 41);
+    assert_eq!(rt; QUESTIONS.len(), 58);
+    assert_eq!(rt; wrong_question(&w, ts.as_slice(), QUESTIONS), None);
+    Ok(())
+}
+
+#[test]
+fn supertypes_have_their_arguments(rt: HostRuntime) -> Result<(), Fail> {
+    let alloc = rt.alloc();
+    let w = library(alloc)?;
+    let ts = built(alloc, SAMPLES)?;
+    assert!(rt; are_supertypes(alloc, &w, ts.as_slice(), SUPERTYPES)?);
+    assert!(rt; supertype(alloc, &w, ts.get(1).ok_or("no such type")?, NAMES)?.is_none());
+    Ok(())
+}
+
+#[test]
+fn erasure_drops_the_arguments(rt: HostRuntime) -> Result<(), Fail> {
+    let alloc = rt.alloc();
+    let ts = built(alloc, SAMPLES)?;
+    let erased = erase(alloc, ts.get(35).ok_or("no such type")?)?;
+    assert!(rt; is_same(&erased, ts.get(37).ok_or("no such type")?));
+    Ok(())
+}
+
+#[test]
+fn no_order_where_a_class_is_above_itself(rt: HostRuntime) -> Result<(), Fail> {
+    let alloc = rt.alloc();
+    let mut types = declared(alloc, LIBRARY.as_slice())?;
+    types.push(generic(alloc, 0, built(alloc, &[Step::Bare(16)])?))?;
+    types.push(generic(alloc, 0, built(alloc, &[Step::Bare(15)])?))?;
+    assert!(rt; matches!(ordered(alloc, types)?, Ordered::AboveItself(_)));
+    Ok(())
+}
+
+#[test]
+fn no_order_where_a_class_is_below_two_parameterizations(rt: HostRuntime) -> Result<(), Fail> {
+    let alloc = rt.alloc();
+    let mut types = declared(alloc, LIBRARY.as_slice())?;
+    let two = built(
+        alloc,
+        &[Step::Bare(NAMES), Step::Bare(0), Step::One(COLLECTION)],
+    )?;
+    types.push(generic(alloc, 0, two))?;
+    assert!(rt; matches!(ordered(alloc, types)?, Ordered::BelowTwo(15)));
     Ok(())
 }

@@ -2,7 +2,6 @@ use Rattle.std.proofs.Common.{◌<◌, sym, ap, ◌∙◌, subst, Some, length, 
 use Rattle.std.specs.Prelude.{IfSome}
 use Rattle.std.specs.Option.{option_copied}
 use Rattle.class_world.specs.Sound.{IsRow, IsSingle}
-use Rattle.class_world.specs.declared.world.TypeInfo.{TypeInfo}
 use Rattle.class_world.specs.Merged.{HasRow}
 use Rattle.class_world.proofs.Transports.{row_written, row_kept, row_single}
 use Rattle.class_world.proofs.order_table.add_row.Goals as goal

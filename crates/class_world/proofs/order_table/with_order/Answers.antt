@@ -1,7 +1,6 @@
 use Rattle.std.proofs.Common.{refl, subst}
 use Rattle.class_world.specs.Ordered.{IsFilled}
 use Rattle.class_world.specs.Sorts.{IsSorted}
-use Rattle.class_world.specs.Merged.{IsSequence}
 use Rattle.class_world.proofs.Transports.{sound_there}
 use Rattle.class_world.proofs.order_table.with_order.Goals as goal
 

@@ -1,4 +1,4 @@
-use Rattle.std.proofs.Common.{◌≡◌, ◌∙◌, length, ap, sym, subst, arith}
+use Rattle.std.proofs.Common.{◌≡◌, ◌∙◌, length, ap, arith}
 use Rattle.std.specs.Prelude.{slice_get}
 use Rattle.class_world.specs.Types.{with_own}
 use Rattle.class_world.specs.Subtypes.{Subtype}

@@ -1,8 +1,8 @@
-use Rattle.std.proofs.Common.{◌≡◌, ◌<◌, ◌∙◌, [], length, sym, subst, ap}
+use Rattle.std.proofs.Common.{◌≡◌, ◌<◌, ◌∙◌, [], length, subst, ap}
 use Rattle.std.specs.Prelude.{IfSome}
 use Rattle.class_world.specs.declared.world.JavaType.TheVariants as ty
 use Rattle.class_world.specs.Types.{with_own}
-use Rattle.class_world.specs.Sound.{AreBases, IsSet}
+use Rattle.class_world.specs.Sound.{AreBases}
 use Rattle.class_world.proofs.Words.{words_back}
 use Rattle.class_world.proofs.Collected.{row_of_parts}
 use Rattle.class_world.proofs.rows.row.Goals as goal

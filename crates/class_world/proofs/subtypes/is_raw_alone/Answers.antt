@@ -1,4 +1,4 @@
-use Rattle.std.proofs.Common.{[], refl, sym, subst}
+use Rattle.std.proofs.Common.{[], sym, subst}
 use Rattle.class_world.specs.Types.{IsReference, of_variable, of_array}
 use Rattle.class_world.proofs.Decides as by
 use Rattle.class_world.proofs.subtypes.is_raw_alone.Goals as goal
