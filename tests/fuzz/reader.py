@@ -270,7 +270,7 @@ class Disk:
             if len(part) > LONGEST_FILE_NAME:
                 return "fault"
             if "/".join(parts[:n + 1]) not in self.folders:
-                # a file where a folder has to stand: the requirements leave open which of the two it is
+                # a file where a folder has to stand: which of the two it is, jgen does not say
                 return "either" if "/".join(parts[:n + 1]) in self.files else "missing"
         if len(parts[-1]) > LONGEST_FILE_NAME or name in self.folders:
             return "fault"
