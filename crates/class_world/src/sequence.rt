@@ -18,7 +18,7 @@ pub(crate) enum Sorted {
     AboveItself(u32),
 }
 
-/// Sorts the classes; takes time for the types and for the declared supertypes.
+/// Sorts the classes; takes time for the types and, for each class, at most the square of its declared supertypes.
 pub(crate) fn sort(alloc: Global, w: &World) -> Result<Sorted, NoMemory>
     requires supers { AreSupers w.now }
     requires few { length w.now.types < 2 ^ 32 }
