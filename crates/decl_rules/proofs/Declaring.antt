@@ -8,13 +8,14 @@ use Rattle.java_tree.specs.declared.tree.Mod.TheVariants as mods
 use Rattle.java_tree.specs.Plain as t
 use Rattle.rule_order.specs.declared.Breach.{Breach}
 use Rattle.rule_order.specs.First.{Breaches, Either, IsFirst}
-use Rattle.decl_rules.specs.Parts.{At, SomeOf, IsRepeat}
+use Rattle.rule_order.specs.Noted.{At, SomeOf}
+use Rattle.decl_rules.specs.Parts.{IsRepeat}
 use Rattle.decl_rules.specs.DeclaredRules.{field_vars, RepeatsField, RepeatsTypeParameter, RepeatsParameter, IsMisnamed, type_mods, field_mods, member_mods, AreContradictory, AreWrong, HasWrongMods, IsWrongMember, IsAbstract, HasWrongBody, BreaksBody, LacksInit, TypeIsWrong, MemberIsWrong, BreaksDeclared}
-use Rattle.decl_rules.specs.Walk.{Adds, noted}
+use Rattle.rule_order.specs.Noted.{Adds, noted}
 use Rattle.decl_rules.specs.Looks as look
 use Rattle.decl_rules.specs.DeclaredLooks as spec
-use Rattle.decl_rules.proofs.Adding.{adds_nothing, adds_both, adds_alike, adds_noted, first_from_none}
-use Rattle.decl_rules.proofs.Lists.{in_none, in_first, in_rest, in_cases, some_none, some_more}
+use Rattle.rule_order.proofs.Adding.{adds_nothing, adds_both, adds_alike, adds_noted, first_from_none}
+use Rattle.rule_order.proofs.Lists.{in_none, in_first, in_rest, in_cases, some_none, some_more}
 use Rattle.decl_rules.proofs.Deciding.{truth, falsity, has_decides}
 use Rattle.decl_rules.proofs.Repeating.{repeats_add, repeats_decide}
 

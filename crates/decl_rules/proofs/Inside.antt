@@ -6,11 +6,13 @@ use Rattle.java_tree.specs.Plain as t
 use Rattle.java_tree.specs.Children.{Item, children}
 use Rattle.rule_order.specs.declared.Breach.{Breach}
 use Rattle.rule_order.specs.First.{Breaches, Either}
-use Rattle.decl_rules.specs.Parts.{IsWithin, Itself, Below, At, SomeOf, SomeWithin, node_of, args_of}
+use Rattle.rule_order.specs.Noted.{At, SomeOf}
+use Rattle.decl_rules.specs.Parts.{IsWithin, Itself, Below, SomeWithin, node_of, args_of}
 use Rattle.decl_rules.specs.PlainRules.{NamesQualified, IsElement, HasGenericElements}
-use Rattle.decl_rules.specs.Walk.{Adds, has_args, element}
-use Rattle.decl_rules.proofs.Adding.{adds_nothing, adds_both, adds_alike, adds_noted}
-use Rattle.decl_rules.proofs.Lists.{some_none, some_more, some_append}
+use Rattle.rule_order.specs.Noted.{Adds}
+use Rattle.decl_rules.specs.Walk.{has_args, element}
+use Rattle.rule_order.proofs.Adding.{adds_nothing, adds_both, adds_alike, adds_noted}
+use Rattle.rule_order.proofs.Lists.{some_none, some_more, some_append}
 
 -- what a node breaks by itself, and all within it, and within some of a list
 abbrev pub Own : Item → Breaches

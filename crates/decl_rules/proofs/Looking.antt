@@ -8,13 +8,13 @@ use Rattle.java_tree.specs.Plain as t
 use Rattle.java_tree.specs.Children as c
 use Rattle.rule_order.specs.declared.Breach.{Breach}
 use Rattle.rule_order.specs.First.{Breaches, Either, IsFirst}
-use Rattle.decl_rules.specs.Parts.{At, SomeOf}
+use Rattle.rule_order.specs.Noted.{At, SomeOf}
 use Rattle.decl_rules.specs.PlainRules.{TypeBreaks, SetsStatic, IsProtected, TakesName, MemberBreaks, BreaksPlain, IsStatic, is_signed_literal}
-use Rattle.decl_rules.specs.Walk.{Adds, noted}
+use Rattle.rule_order.specs.Noted.{Adds, noted}
 use Rattle.decl_rules.specs.Walk as walk
 use Rattle.decl_rules.specs.Looks as spec
-use Rattle.decl_rules.proofs.Adding.{adds_nothing, adds_both, adds_noted, first_from_none}
-use Rattle.decl_rules.proofs.Lists.{some_none, some_more}
+use Rattle.rule_order.proofs.Adding.{adds_nothing, adds_both, adds_noted, first_from_none}
+use Rattle.rule_order.proofs.Lists.{some_none, some_more}
 use Rattle.decl_rules.proofs.Inside.{In}
 use Rattle.decl_rules.proofs.Walking.{file_on}
 use Rattle.decl_rules.proofs.Deciding.{truth, falsity, some_decides, has_decides, set_decides, takes_decides}

@@ -14,13 +14,14 @@ use Rattle.java_tree.specs.declared.tree.Mod.{Mod}
 use Rattle.rule_order.specs.declared.Breach.{Breach}
 use Rattle.rule_order.specs.First.{Breaches, Either}
 use Rattle.decl_rules.specs.declared.repeats.Named.{Named}
-use Rattle.decl_rules.specs.Parts.{At, Nowhere, IsRepeat}
-use Rattle.decl_rules.specs.Walk.{Adds, noted}
+use Rattle.rule_order.specs.Noted.{At, Nowhere}
+use Rattle.decl_rules.specs.Parts.{IsRepeat}
+use Rattle.rule_order.specs.Noted.{Adds, noted}
 use Rattle.decl_rules.specs.Looks as look
 use Rattle.decl_rules.specs.DeclaredLooks as spec
 use Rattle.decl_rules.specs.DeclaredLooks.{again}
-use Rattle.decl_rules.proofs.Adding.{adds_nothing, adds_both, adds_alike, adds_noted}
-use Rattle.decl_rules.proofs.Lists.{in_none, in_first, in_rest, in_cases}
+use Rattle.rule_order.proofs.Adding.{adds_nothing, adds_both, adds_alike, adds_noted}
+use Rattle.rule_order.proofs.Lists.{in_none, in_first, in_rest, in_cases}
 use Rattle.decl_rules.proofs.Deciding.{has_decides}
 
 -- ---- the loop

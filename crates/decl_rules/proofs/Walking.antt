@@ -11,8 +11,8 @@ use Rattle.java_tree.specs.Children as c
 use Rattle.rule_order.specs.declared.Breach.{Breach}
 use Rattle.decl_rules.specs.PlainRules.{NamesQualified, HasGenericElements, IsQualified, HasBrackets}
 use Rattle.decl_rules.specs.Walk as spec
-use Rattle.decl_rules.proofs.Adding.{adds_both, adds_noted}
-use Rattle.decl_rules.proofs.Lists.{in_none, in_first, in_rest, in_cases}
+use Rattle.rule_order.proofs.Adding.{adds_both, adds_noted}
+use Rattle.rule_order.proofs.Lists.{in_none, in_first, in_rest, in_cases}
 use Rattle.decl_rules.proofs.Inside.{GoesOn, AllGoOn, with_own, bare, none, more, one, both, element_adds, with_element}
 
 -- ---- written types

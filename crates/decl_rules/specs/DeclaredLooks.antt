@@ -10,7 +10,8 @@ use Rattle.java_tree.specs.Plain as t
 use Rattle.java_tree.specs.Plain.{TypeDecl, MethodDecl, Member, Var, Param}
 use Rattle.decl_rules.specs.declared.repeats.Named.{Named}
 use Rattle.decl_rules.specs.DeclaredRules.{field_vars, type_mods, field_mods, member_mods}
-use Rattle.decl_rules.specs.Walk.{Walk, noted}
+use Rattle.rule_order.specs.Noted.{noted}
+use Rattle.decl_rules.specs.Walk.{Walk}
 use Rattle.decl_rules.specs.Looks.{has}
 
 -- ---- names

@@ -6,7 +6,8 @@ use Rattle.java_tree.specs.declared.tree.Mod.TheVariants as mods
 use Rattle.java_tree.specs.Plain as t
 use Rattle.java_tree.specs.Plain.{SourceUnit, TypeDecl, MethodDecl, Member, Var, Param}
 use Rattle.rule_order.specs.First.{Breaches, Either}
-use Rattle.decl_rules.specs.Parts.{At, Nowhere, SomeOf, IsRepeat, mods_of, member_node}
+use Rattle.rule_order.specs.Noted.{At, Nowhere, SomeOf}
+use Rattle.decl_rules.specs.Parts.{IsRepeat, mods_of, member_node}
 
 -- ---- names
 

@@ -7,7 +7,8 @@ use Rattle.java_tree.specs.declared.tree.Mod.TheVariants as mods
 use Rattle.java_tree.specs.Plain as t
 use Rattle.java_tree.specs.Plain.{TypeDecl, MethodDecl, Member, Var, Expr}
 use Rattle.decl_rules.specs.PlainRules.{is_signed_literal, left_out_names}
-use Rattle.decl_rules.specs.Walk.{Walk, noted}
+use Rattle.rule_order.specs.Noted.{noted}
+use Rattle.decl_rules.specs.Walk.{Walk}
 
 abbrev pub same : Mod → Mod → Bool
 same mods.Public mods.Public = true

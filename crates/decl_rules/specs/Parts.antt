@@ -13,16 +13,6 @@ pub data IsWithin : Item → Item → Type 0 where
   Itself : (x : Item) → IsWithin x x
   Below : (x y z : Item) → Contains (children x) y → IsWithin y z → IsWithin x z
 
--- the rule is broken at this node if P holds
-abbrev pub At : (rule : ℕ) → Node → Type 0 → Breaches
-At rule node P b = (b.rule ≡ rule) × (b.node ≡ node.id) × P
-
-abbrev pub Nowhere : Breaches
-Nowhere b = ⊥
-
-abbrev pub SomeOf : {A : Type 0} → List A → (A → Breaches) → Breaches
-SomeOf {A} xs F b = (x : A) × Contains xs x × F x b
-
 abbrev pub SomeWithin : Item → (Item → Breaches) → Breaches
 SomeWithin x F b = (y : Item) × IsWithin x y × F y b
 

@@ -9,7 +9,8 @@ use Rattle.java_tree.specs.Plain.{SourceUnit, TypeDecl, FieldDecl, MethodDecl, M
 use Rattle.java_tree.specs.Children as c
 use Rattle.java_tree.specs.Children.{Item}
 use Rattle.rule_order.specs.First.{Breaches, Either}
-use Rattle.decl_rules.specs.Parts.{At, Nowhere, SomeOf, SomeWithin, node_of, head_of, args_of, dims_of, mods_of, member_node}
+use Rattle.rule_order.specs.Noted.{At, Nowhere, SomeOf}
+use Rattle.decl_rules.specs.Parts.{SomeWithin, node_of, head_of, args_of, dims_of, mods_of, member_node}
 
 -- ---- written types
 

@@ -11,32 +11,6 @@ use Rattle.rule_order.specs.declared.Breach.{Breach}
 use Rattle.rule_order.specs.First.{Breaches, Either, IsFirst}
 use Rattle.decl_rules.specs.Parts.{node_of}
 
--- ---- the first one so far
-
-abbrev pub Only : Option Breach → Breaches
-Only None b = ⊥
-Only (Some a) b = b ≡ a
-
--- r is the first of the set and of the one before, if there was one
-abbrev pub Adds : Breaches → Option Breach → Option Breach → Type 0
-Adds S a r = IsFirst (Either (Only a) S) r
-
-abbrev pub is_before : Breach → Breach → Bool
-is_before a b = nat_lt a.node b.node || (nat_eq a.node b.node && nat_le a.rule b.rule)
-
-abbrev pub choose : Bool → Breach → Breach → Option Breach
-choose true a b = Some a
-choose false a b = Some b
-
-abbrev pub earlier_of : Option Breach → Option Breach → Option Breach
-earlier_of None b = b
-earlier_of (Some a) None = Some a
-earlier_of (Some a) (Some b) = choose (is_before a b) a b
-
-abbrev pub noted : Option Breach → (rule : ℕ) → Node → Bool → Option Breach
-noted a rule node true = earlier_of a (Some (record { node = node.id; rule = rule }))
-noted a rule node false = a
-
 -- ---- the walk
 
 -- from the first one so far to the first one after it

@@ -10,11 +10,10 @@ ghost use Rattle.decl_rules.specs.Looks as look;
 ghost use Rattle.decl_rules.specs.DeclaredLooks as spec;
 
 use crate::modifiers::{are_wrong_for_field, are_wrong_for_method, are_wrong_for_type, has};
-use crate::noted::noted;
 use crate::repeats::{note_fields, note_params, note_type_params};
 use java_tree::tree::{Member, Mod, Name, SourceUnit, Stmt, TypeDecl, Var};
 use java_tree::{Items, NoMemory};
-use rule_order::Breach;
+use rule_order::{Breach, noted};
 use std::alloc::Global;
 
 /// The first of DR5, DR8, DR9, DR10, DR11, and of DR12 on fields, that a file breaks: at the first node, and there the rule with the lowest number. Node numbers

@@ -6,7 +6,6 @@ mod declared;
 mod exprs;
 mod members;
 mod modifiers;
-mod noted;
 mod plain;
 mod repeats;
 mod stmts;

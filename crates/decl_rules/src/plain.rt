@@ -10,10 +10,9 @@ ghost use Rattle.decl_rules.specs.Looks as spec;
 
 use crate::members::walk_decls;
 use crate::modifiers::has;
-use crate::noted::noted;
 use java_tree::tree::{Expr, ExprForm, Member, Mod, Name, Param, SourceUnit, TypeDecl, UnOp, Var};
 use java_tree::{Items, Names};
-use rule_order::Breach;
+use rule_order::{Breach, noted};
 
 /// The first of S10, S13, S16, S17, S18 and S19 that a file breaks: at the first node, and there the rule with the lowest number. `user` says whether it is a
 /// user's file (S10) or one of a library (S18). Node numbers are those of the tree.

@@ -5,11 +5,10 @@ ghost use Rattle.java_tree.specs.View.{var_plain, param_plain, member_plain};
 ghost use Rattle.decl_rules.specs.DeclaredRules.{field_vars};
 ghost use Rattle.decl_rules.specs.DeclaredLooks as spec;
 
-use crate::noted::noted;
 use indexmap::IndexSet;
 use java_tree::tree::{Member, Name, Node, Param, Var};
 use java_tree::{Items, NoMemory};
-use rule_order::Breach;
+use rule_order::{Breach, noted};
 use std::alloc::Global;
 
 /// A declared name, and the node at which a repetition is named.

@@ -6,10 +6,9 @@ ghost use Rattle.java_tree.specs.View as view;
 ghost use Rattle.java_tree.specs.View.{type_plain, var_plain};
 ghost use Rattle.decl_rules.specs.Walk as spec;
 
-use crate::noted::noted;
 use java_tree::Items;
 use java_tree::tree::{Head, TypeExpr, Var};
-use rule_order::Breach;
+use rule_order::{Breach, noted};
 
 /// Whether a head is a path of two or more names.
 fn is_qualified(head: &Head) -> bool

@@ -1,7 +1,11 @@
 //! Which of several broken rules is named: the one at the first node, and there the one with the lowest number.
 #![tactic(auto)]
 
+ghost use Rattle.std.specs.Prelude.{◌≡◌};
 ghost use Rattle.rule_order.specs.First.{IsEarlier};
+ghost use Rattle.rule_order.specs.Noted as spec;
+
+use java_tree::tree::Node;
 
 #[cfg(test)]
 mod tests;
@@ -22,4 +26,19 @@ pub fn earlier(a: Option<Breach>, b: Option<Breach>) -> Option<Breach>
         (Some(x), _) => Some(x),
         (None, other) => other,
     }
+}
+
+/// The first broken rule so far, where this one is next, and broken if `holds` says so.
+#[tactic(auto, using(crate::proofs::Adding::earlier_same))]
+pub fn noted(first: Option<Breach>, rule: u8, node: Node, holds: bool) -> Option<Breach>
+    ensures { result ≡ spec.noted first rule node holds }
+{
+    if !holds {
+        return first;
+    }
+    let next = Breach {
+        node: node.id,
+        rule,
+    };
+    earlier(first, Some(next))
 }

@@ -10,11 +10,12 @@ use Rattle.java_tree.specs.Plain as t
 use Rattle.java_tree.specs.Plain.{TypeExpr, TypeExprs}
 use Rattle.rule_order.specs.declared.Breach.{Breach}
 use Rattle.rule_order.specs.First.{Breaches, Either, IsFirst}
-use Rattle.written_types.specs.Breaks.{IsOneOf, IsArgument, IsWithin, itself, below, node_of, At, Broken, IsNested, Nested}
-use Rattle.written_types.specs.Walk.{Adds, noted, is_nested}
+use Rattle.written_types.specs.Breaks.{IsOneOf, IsArgument, IsWithin, itself, below, node_of, Broken, IsNested, Nested}
+use Rattle.written_types.specs.Walk.{is_nested}
+use Rattle.rule_order.specs.Noted.{At, Adds, noted}
 use Rattle.written_types.specs.Places.{Place}
 use Rattle.written_types.specs.Walk as walk
-use Rattle.written_types.proofs.Adding.{adds_nothing, adds_both, adds_alike, adds_noted, first_from_none}
+use Rattle.rule_order.proofs.Adding.{adds_nothing, adds_both, adds_alike, adds_noted, first_from_none}
 use Rattle.written_types.proofs.Deciding.{nested_decides}
 use Rattle.written_types.proofs.Steps.{walked}
 

@@ -1,4 +1,3 @@
-pub mod Adding
 pub mod Steps
 pub mod Places
 pub mod Deciding

@@ -16,6 +16,7 @@ use Rattle.written_types.specs.Places.{Place}
 use Rattle.written_types.specs.Types.{arrays, head_type, type_of, types_of, joined}
 use Rattle.written_types.specs.Breaks.{length_of}
 use Rattle.written_types.specs.Walk as walk
+use Rattle.rule_order.specs.Noted as order
 
 next_item : {A : Type 0} (xs : List A) (i : ℕ) (x : A) → i < length xs → x ≡ get_or xs i x → drop i xs ≡ x ∷ drop (i + 1) xs
 next_item xs i x h e = drop_more xs i x h ∙ ap (λ y. y ∷ drop (i + 1) xs) (sym e)
@@ -95,7 +96,7 @@ pub type_said : (p : Place) (x : TypeExpr)
 type_said p x = ap (type_of p) (type_out x)
 
 pub type_walked : (test : t.TypeExpr → Bool) (rule : ℕ) (x : TypeExpr) (a : Option Breach)
-    → walk.type test rule (type_plain x) a ≡ walked test rule (args_at x) (walk.noted a rule (out-TypeExpr x).node (test (type_plain x)))
+    → walk.type test rule (type_plain x) a ≡ walked test rule (args_at x) (order.noted a rule (out-TypeExpr x).node (test (type_plain x)))
 type_walked test rule x a =
     ap (λ y. walk.type test rule y a) (type_out x)
-    ∙ ap (λ y. walked test rule (args_at x) (walk.noted a rule (out-TypeExpr x).node (test y))) (sym (type_out x))
+    ∙ ap (λ y. walked test rule (args_at x) (order.noted a rule (out-TypeExpr x).node (test y))) (sym (type_out x))

@@ -10,6 +10,7 @@ use Rattle.java_tree.specs.Plain.{TypeExpr, TypeExprs}
 use Rattle.class_world.specs.declared.world.JavaType.{JavaType}
 use Rattle.rule_order.specs.declared.Breach.{Breach}
 use Rattle.rule_order.specs.First.{Breaches}
+use Rattle.rule_order.specs.Noted.{At}
 use Rattle.written_types.specs.Places.{Place}
 use Rattle.written_types.specs.Types.{type_of}
 
@@ -33,10 +34,6 @@ node_of (t.Written n h s xs d) = n
 abbrev pub length_of : TypeExprs → ℕ
 length_of t.NoTypes = zero
 length_of (t.AndType x xs) = suc (length_of xs)
-
--- the rule is broken at this node if P holds
-abbrev pub At : (rule : ℕ) → Node → Type 0 → Breaches
-At rule node P b = (b.rule ≡ rule) × (b.node ≡ node.id) × P
 
 -- the rule is broken at each written type within x that P holds of
 abbrev pub Broken : (rule : ℕ) → (TypeExpr → Type 0) → TypeExpr → Breaches

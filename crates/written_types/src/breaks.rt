@@ -9,8 +9,8 @@ ghost use Rattle.written_types.specs.Breaks.{IllNamed, Nested};
 ghost use Rattle.written_types.specs.Walk as spec;
 
 use crate::scope::{Named, Scope};
-use java_tree::tree::{Node, TypeExpr};
-use rule_order::{Breach, earlier};
+use java_tree::tree::TypeExpr;
+use rule_order::{Breach, noted};
 
 /// DR1 or S12.
 #[derive(Clone, Copy)]
@@ -34,7 +34,7 @@ impl Rule {
 pub fn first_ill_named(scope: &Scope<'_>, x: &TypeExpr) -> Option<Breach>
     ensures { (p : Place) → IsPlace scope.now p → IsFirst (IllNamed p (type_plain x.now)) result }
 {
-    let first = noted(None, Rule::IllNamed, x.node, is_ill_named(scope, x));
+    let first = noted(None, 1, x.node, is_ill_named(scope, x));
     note_types(scope, Rule::IllNamed, x.args.as_slice(), first)
 }
 
@@ -55,25 +55,10 @@ fn note_types(
     ensures { (p : Place) → IsPlace scope.now p → result ≡ spec.types (spec.breaks p rule) (spec.number rule) (view.types (map type_plain xs.now)) first }
 {
     for x in xs {
-        first = noted(first, rule, x.node, breaks(scope, rule, x));
+        first = noted(first, rule.number(), x.node, breaks(scope, rule, x));
         first = note_types(scope, rule, x.args.as_slice(), first);
     }
     first
-}
-
-// The first broken rule so far, where this one is next, and broken if `holds` says so.
-#[tactic(auto, using(crate::proofs::Adding::earlier_same))]
-fn noted(first: Option<Breach>, rule: Rule, node: Node, holds: bool) -> Option<Breach>
-    ensures { result ≡ spec.noted first (spec.number rule) node holds }
-{
-    if !holds {
-        return first;
-    }
-    let next = Breach {
-        node: node.id,
-        rule: rule.number(),
-    };
-    earlier(first, Some(next))
 }
 
 fn breaks(scope: &Scope<'_>, rule: Rule, x: &TypeExpr) -> bool

@@ -6,8 +6,7 @@ use Rattle.java_tree.specs.declared.tree.Node.{Node}
 use Rattle.rule_order.specs.declared.Breach.{Breach}
 use Rattle.rule_order.specs.First.{Breaches, Either, IsBefore, IsFirst, IsEarlier}
 use Rattle.rule_order.proofs.Firsts.{first_alike, first_of_both, before_through}
-use Rattle.written_types.specs.Breaks.{At}
-use Rattle.written_types.specs.Walk.{Only, Adds, is_before, choose, earlier_of, noted}
+use Rattle.rule_order.specs.Noted.{At, Only, Adds, is_before, choose, earlier_of, noted}
 
 pub first_only : (a : Option Breach) → IsFirst (Only a) a
 first_only None = λ b h. h

@@ -4,9 +4,8 @@ use Rattle.std.specs.Prelude.{Contains}
 use Rattle.std.proofs.lemmas.List.Elements.{Contains-append_left, Contains-append_right, Contains-append_cases}
 use Rattle.rule_order.specs.declared.Breach.{Breach}
 use Rattle.rule_order.specs.First.{Breaches, Either}
-use Rattle.decl_rules.specs.Parts.{SomeOf}
-use Rattle.decl_rules.specs.Walk.{Adds}
-use Rattle.decl_rules.proofs.Adding.{adds_nothing, adds_both, adds_alike}
+use Rattle.rule_order.specs.Noted.{SomeOf, Adds}
+use Rattle.rule_order.proofs.Adding.{adds_nothing, adds_both, adds_alike}
 
 pub in_none : {A : Type 0} (y : A) → Contains [] y → ⊥
 in_none y h = omega (arith, h.1)

@@ -1,0 +1,2 @@
+//! The declared types, methods and fields of a program (JLS 3rd edition, chapters 8 and 9).
+#![tactic(auto)]

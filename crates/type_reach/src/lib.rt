@@ -1,0 +1,2 @@
+//! Which nodes of a directed graph reach which.
+#![tactic(auto)]
