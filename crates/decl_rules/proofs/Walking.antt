@@ -9,6 +9,7 @@ use Rattle.java_tree.specs.Plain as t
 use Rattle.java_tree.specs.View as view
 use Rattle.java_tree.specs.Children as c
 use Rattle.rule_order.specs.declared.Breach.{Breach}
+use Rattle.rule_order.specs.Noted.{noted}
 use Rattle.decl_rules.specs.PlainRules.{NamesQualified, HasGenericElements, IsQualified, HasBrackets}
 use Rattle.decl_rules.specs.Walk as spec
 use Rattle.rule_order.proofs.Adding.{adds_both, adds_noted}
@@ -27,7 +28,7 @@ mutual
   pub type_on : (x : t.TypeExpr) (a : Option Breach) → GoesOn (c.TypeExpr x) a (spec.type x a)
   type_on (t.Written n h s xs d) a =
       let x = t.Written n h s xs d in
-      let m = spec.noted a 13 n (spec.is_qualified h) in
+      let m = noted a 13 n (spec.is_qualified h) in
       let e = spec.element (nat_lt 0 d) x m in
       with_own (c.TypeExpr x) a e (spec.types xs e)
       (adds_both (NamesQualified (c.TypeExpr x)) (HasGenericElements (c.TypeExpr x)) a m e

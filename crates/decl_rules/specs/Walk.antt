@@ -1,14 +1,13 @@
 -- What the walk over the written types of a file answers: the first broken rule so far goes in, and the first one behind the subtree comes out. Contracts
 -- of private functions speak of it, and no public one does.
-use Rattle.std.specs.Prelude.{◌≡◌, ℕ, Bool, true, false, ◌&&◌, ◌||◌, List, [], ◌∷◌, Option, Some, None, nat_lt, nat_eq, nat_le}
+use Rattle.std.specs.Prelude.{Bool, true, false, ◌&&◌, ◌||◌, List, [], ◌∷◌, Option, Some, None, nat_lt}
 use Rattle.java_tree.specs.declared.tree.Head.{Head}
 use Rattle.java_tree.specs.declared.tree.Head.TheVariants as head
-use Rattle.java_tree.specs.declared.tree.Node.{Node}
 use Rattle.java_tree.specs.View as view
 use Rattle.java_tree.specs.Plain as t
 use Rattle.java_tree.specs.Plain.{TypeExpr, TypeExprs, Expr, MaybeExpr, Exprs, Var, Param, Stmt, MaybeStmt, Stmts, Group, Groups, Catch, Catches, Member, TypeDecl, SourceUnit}
 use Rattle.rule_order.specs.declared.Breach.{Breach}
-use Rattle.rule_order.specs.First.{Breaches, Either, IsFirst}
+use Rattle.rule_order.specs.Noted.{noted}
 use Rattle.decl_rules.specs.Parts.{node_of}
 
 -- ---- the walk
