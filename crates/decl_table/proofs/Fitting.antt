@@ -38,7 +38,7 @@ count_headers j built fs sixteen =
     let d = length-map (declarations fs) header in
     a ∙ (let e : length (map (built_in_type j) (numbers_below 16)) + length (flat_map types_in fs) ≡ length built + length (map header (declarations fs)) = omega (arith, b, d, sixteen, count_from 0 fs) in e) ∙ sym c
 
-or_parts : {A : Type 0} (a b : Option A) (x : A) → option_or a b ≡ Some x → (a ≡ Some x) ⊎ (b ≡ Some x)
+pub or_parts : {A : Type 0} (a b : Option A) (x : A) → option_or a b ≡ Some x → (a ≡ Some x) ⊎ (b ≡ Some x)
 or_parts None b x e = inr e
 or_parts (Some y) b x e = inl e
 

@@ -12,3 +12,6 @@ pub mod Bases
 pub mod Listed
 pub mod Supers
 pub mod Orders
+pub mod GenericSeen
+pub mod FileLists
+pub mod Meanings

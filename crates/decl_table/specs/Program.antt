@@ -8,11 +8,10 @@ use Rattle.java_tree.specs.declared.fault.Family.TheVariants as family
 use Rattle.java_tree.specs.Plain.{SourceUnit}
 use Rattle.rule_order.specs.declared.Breach.{Breach}
 use Rattle.rule_order.specs.First.{Breaches, Either, IsFirst}
-use Rattle.rule_order.specs.Noted.{SomeOf}
 use Rattle.type_names.specs.declared.known.JavaNames.{JavaNames}
 use Rattle.type_names.specs.Known.{AreJavaNames, File, files_of}
 use Rattle.type_names.specs.Sees.{meant}
-use Rattle.type_names.specs.Rules.{NameBreaches, ImportBreaches}
+use Rattle.type_names.specs.Rules.{Among, NameBreaches, ImportBreaches}
 use Rattle.decl_rules.specs.PlainRules.{BreaksPlain}
 use Rattle.decl_rules.specs.DeclaredRules.{BreaksDeclared, declared_types, declared_methods}
 use Rattle.class_world.specs.declared.world.World.{World}
@@ -63,10 +62,18 @@ is_generic_type ts c = unwrap_or (option_map (λ (info : TypeInfo). nat_lt 0 inf
 abbrev pub is_generic_name : JavaNames → List File → List TypeInfo → File → Name → Bool
 is_generic_name j fs ts f n = unwrap_or (option_map (is_generic_type ts) (meant j fs f n)) false
 
+-- a generic type that a name means has this name
+abbrev pub NamesGenerics : List TypeInfo → JavaNames → List File → Type 0
+NamesGenerics ts j fs = (f : File) (n : Name) (c : ℕ) (info : TypeInfo) → meant j fs f n ≡ Some c → slice_get ts c ≡ Some info → 0 < info.params → info.name ≡ n
+
+-- what a file breaks of S10, S12, S13 and S16 to S19
+abbrev pub PlainBreaches : List (List ℕ) → JavaNames → List File → List TypeInfo → File → Breaches
+PlainBreaches names j fs ts f = BreaksPlain f.unit f.user names (is_generic_name j fs ts f)
+
 -- S10 to S20, S22 and S23
 abbrev pub ScopeBreaches : List (List ℕ) → Program → Breaches
 ScopeBreaches names p =
-    Either (SomeOf (files p) (λ f. BreaksPlain f.unit f.user names (is_generic_name p.java (files p) (types p) f)))
+    Either (Among (PlainBreaches names p.java (files p) (types p)) (files p))
     (Either (NameBreaches p.java p.user p.lib) (GenericSuperBreaches p.java (files p) (types p)))
 
 -- ---- how many declarations there are
@@ -91,7 +98,7 @@ ClashBreaches w b =
 -- DR1 to DR12
 abbrev pub DeclarationBreaches : Program → Breaches
 DeclarationBreaches p =
-    Either (SomeOf (files p) (λ f. BreaksDeclared f.unit))
+    Either (Among (λ f. BreaksDeclared f.unit) (files p))
     (Either (ImportBreaches p.java (files p))
     (Either (DeclaredTypeBreaches p.java (files p) (types p))
     (Either (SuperBreaches p.java (files p) (types p))

@@ -4,8 +4,10 @@
 mod build;
 mod built_ins;
 mod classes;
+mod generics;
 mod methods;
 mod rules;
+mod scope;
 mod tree;
 mod types;
 mod written;
