@@ -1,5 +1,5 @@
 -- The walk finds the first of what is within a node, form by form.
-use Rattle.std.proofs.Common.{◌≡◌, ◌<◌, ◌⊎◌, inl, inr, Bool, true, false, Option, Some, None, List, [], ◌∷◌, ◌++◌, map, refl, sym, subst}
+use Rattle.std.proofs.Common.{◌≡◌, ◌<◌, ◌⊎◌, inl, inr, Bool, true, false, Option, Some, None, List, [], ◌∷◌, map, refl, sym, subst}
 use Rattle.std.specs.Prelude.{Decides, Contains, nat_lt}
 use Rattle.std.proofs.lemmas.Bool.Decides.{Decides-ltb, Decides-like, Decides-or}
 use Rattle.std.proofs.lemmas.List.Elements.{Contains-append_right, Contains-append_cases}
@@ -14,7 +14,7 @@ use Rattle.java_tree.specs.Children.{Item, children}
 use Rattle.rule_order.specs.declared.Breach.{Breach}
 use Rattle.rule_order.specs.First.{Breaches, Either}
 use Rattle.rule_order.specs.Noted.{At, SomeOf, Adds, noted}
-use Rattle.decl_rules.specs.Parts.{IsWithin, Itself, Below, node_of, head_of, dims_of}
+use Rattle.decl_rules.specs.Parts.{IsWithin, Below, node_of, head_of, dims_of}
 use Rattle.decl_rules.specs.PlainRules.{NamesQualified, IsElement, HasGenericElements, IsQualified, HasBrackets, NamesGeneric, WrittenBreaks}
 use Rattle.decl_rules.specs.Walk as spec
 use Rattle.rule_order.proofs.Adding.{adds_nothing, adds_both, adds_alike, adds_noted}
@@ -291,9 +291,9 @@ module _ (generic : Name → Bool) where
             | inl e ↦ absurd (outside (c.File u) refl (λ ty k. k) b (subst (λ (z : Item). Written z b) e h))
             | inr k ↦ elim (Contains-append_cases (map c.Import u.imports) (map c.Decl u.types) k.0 k.1) [
               | inl v ↦ let i = of_mapped c.Import k.0 u.imports v in
-                        let at = outside_import i.0 y (subst (λ (z : Item). IsWithin z y) i.2 k.2) in
-                        absurd (outside y at.0 at.1 b h)
+                  let at = outside_import i.0 y (subst (λ (z : Item). IsWithin z y) i.2 k.2) in
+                  absurd (outside y at.0 at.1 b h)
               | inr v ↦ let d = of_mapped c.Decl k.0 u.types v in
-                        (d.0, d.1, (y, subst (λ (z : Item). IsWithin z y) d.2 k.2, elim h [ inl w ↦ inl w | inr w ↦ inr (inl w) ]))
+                  (d.0, d.1, (y, subst (λ (z : Item). IsWithin z y) d.2 k.2, elim h [ inl w ↦ inl w | inr w ↦ inr (inl w) ]))
             ]
           ]

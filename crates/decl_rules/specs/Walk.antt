@@ -1,6 +1,6 @@
 -- What the walk over the written types of a file answers: the first broken rule so far goes in, and the first one behind the subtree comes out. Contracts
 -- of private functions speak of it, and no public one does.
-use Rattle.std.specs.Prelude.{ℕ, Bool, true, false, not, ◌&&◌, ◌||◌, List, [], ◌∷◌, Option, Some, None, nat_lt, nat_eq}
+use Rattle.std.specs.Prelude.{Bool, true, false, not, ◌&&◌, ◌||◌, List, [], ◌∷◌, Option, Some, None, nat_lt, nat_eq}
 use Rattle.std.specs.List.{list_any}
 use Rattle.java_tree.specs.declared.tree.Name.{Name}
 use Rattle.java_tree.specs.declared.tree.Head.{Head}

@@ -1,6 +1,6 @@
 //! Each rule on a small tree that breaks it, and on one that just does not.
 
-use crate::{Counts, count, first_declared, first_plain};
+use crate::{Counts, GenericNames, count, first_declared, first_plain};
 use java_tree::tree::{
     Expr, ExprForm, Head, Member, Mod, Name, Node, Param, Primitive, SourceUnit, Span, Stmt,
     StmtForm, TypeDecl, TypeExpr, UnOp, Var,
@@ -180,10 +180,14 @@ fn file(
 }
 
 // What a file breaks of the S rules, as a user's and as a library's.
-fn plain_of(unit: &SourceUnit, names: &Names) -> (Option<Breach>, Option<Breach>) {
+fn plain_of(
+    unit: &SourceUnit,
+    names: &Names,
+    generics: &GenericNames,
+) -> (Option<Breach>, Option<Breach>) {
     (
-        first_plain(unit, true, names),
-        first_plain(unit, false, names),
+        first_plain(unit, true, names, generics),
+        first_plain(unit, false, names, generics),
     )
 }
 
@@ -197,7 +201,7 @@ fn plain_of_field(
     let member = field(alloc, mods, ty, var(8, Name(3), init))?;
     let unit = file(alloc, &[], interface, member)?;
     let names = Names::new(alloc)?;
-    Ok(plain_of(&unit, &names).0)
+    Ok(plain_of(&unit, &names, &GenericNames::new(alloc)).0)
 }
 
 #[test]
@@ -206,7 +210,10 @@ fn types_and_protected(rt: HostRuntime) -> Result<(), Fail> {
     let names = Names::new(alloc)?;
     let member = method(alloc, &[Mod::Protected], false, Name(3), true)?;
     let unit = file_with(alloc, &[], false, &[Name(4)], member)?;
-    assert_eq!(rt; plain_of(&unit, &names), (at(5, 10), at(6, 18)));
+    assert_eq!(rt;
+        plain_of(&unit, &names, &GenericNames::new(alloc)),
+        (at(5, 10), at(6, 18))
+    );
     Ok(())
 }
 
@@ -215,7 +222,7 @@ fn plain_of_param(alloc: Global, dims: u32) -> Result<Option<Breach>, NoMemory> 
     let member = method_of(alloc, Name(3), param(generic(alloc)?, dims))?;
     let unit = file(alloc, &[], false, member)?;
     let names = Names::new(alloc)?;
-    Ok(plain_of(&unit, &names).0)
+    Ok(plain_of(&unit, &names, &GenericNames::new(alloc)).0)
 }
 
 #[test]
@@ -262,7 +269,10 @@ fn takes(alloc: Global, text: &str) -> Result<(Option<Breach>, Option<Breach>), 
         false,
         method_of(alloc, name, param(int(alloc), 0))?,
     )?;
-    Ok((plain_of(&alone, &names).0, plain_of(&with_one, &names).0))
+    Ok((
+        plain_of(&alone, &names, &GenericNames::new(alloc)).0,
+        plain_of(&with_one, &names, &GenericNames::new(alloc)).0,
+    ))
 }
 
 #[test]
