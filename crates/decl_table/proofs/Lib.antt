@@ -15,3 +15,4 @@ pub mod Orders
 pub mod GenericSeen
 pub mod FileLists
 pub mod Meanings
+pub mod Lows

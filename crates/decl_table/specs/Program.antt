@@ -88,6 +88,11 @@ type_count p = sum declared_types p.user + sum declared_types p.lib
 abbrev pub method_count : Program → ℕ
 method_count p = sum declared_methods p.user + sum declared_methods p.lib
 
+-- which limit so many types and methods go past: none, that of the types (6), or that of the methods (7)
+abbrev pub IsLimitOver : (types methods : ℕ) → Option ℕ → Type 0
+IsLimitOver types methods None = (types ≤ 4096) × (methods ≤ 65536)
+IsLimitOver types methods (Some rule) = ((rule ≡ 6) × (4096 < types)) ⊎ ((rule ≡ 7) × (types ≤ 4096) × (65536 < methods))
+
 -- ---- the rules on declarations
 
 -- DR4: a declared type with its own variables is below two parameterizations of one type (JLS 8.1.5).

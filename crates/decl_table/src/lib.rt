@@ -4,7 +4,9 @@
 mod build;
 mod built_ins;
 mod classes;
+mod declarations;
 mod generics;
+mod limits;
 mod methods;
 mod rules;
 mod scope;
