@@ -10,4 +10,4 @@ mod tests;
 
 pub use breaks::{first_ill_named, first_nested};
 pub use read::read_type;
-pub use scope::Scope;
+pub use scope::{Named, Scope};
