@@ -31,6 +31,12 @@ pub data IsWithin : TypeExpr → TypeExpr → Type 0 where
 abbrev pub node_of : TypeExpr → Node
 node_of (t.Written n h s xs d) = n
 
+abbrev pub head_of : TypeExpr → Head
+head_of (t.Written n h s xs d) = h
+
+abbrev pub args_of : TypeExpr → TypeExprs
+args_of (t.Written n h s xs d) = xs
+
 abbrev pub length_of : TypeExprs → ℕ
 length_of t.NoTypes = zero
 length_of (t.AndType x xs) = suc (length_of xs)
