@@ -58,7 +58,8 @@ fn push_types(
     Ok(())
 }
 
-fn header(
+/// What is known of a declared type before its written types are read: its supertypes, methods and fields stay empty. `NoMemory` also where it has 2^32 type parameters or more.
+pub fn header(
     alloc: Global,
     unit: &SourceUnit,
     user: bool,
