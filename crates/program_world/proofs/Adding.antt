@@ -1,5 +1,6 @@
 -- A declared type with its members is added to a world.
-use Rattle.std.proofs.Common.{◌≡◌, ℕ, ◌+◌, ◌-◌, List, [], ◌∷◌, ◌++◌, length, length-append, sym, ap, ◌∙◌, arith}
+use Rattle.std.proofs.Common.{◌≡◌, ℕ, ◌+◌, ◌-◌, List, [], ◌∷◌, ◌++◌, length, length-append, append_assoc, Option, None, sym, ap, ◌∙◌, arith}
+use Rattle.std.proofs.lemmas.List.{append-nil}
 use Rattle.std.specs.List.{range_with_len}
 use Rattle.class_world.specs.declared.world.World.{World}
 use Rattle.class_world.specs.declared.world.TypeInfo.{TypeInfo}
@@ -8,11 +9,13 @@ use Rattle.class_world.specs.declared.world.FieldInfo.{FieldInfo}
 use Rattle.class_world.specs.declared.world.JavaType.{JavaType}
 use Rattle.class_world.specs.declared.world.Walk.{Walk}
 use Rattle.class_world.specs.declared.world.Above.{Above}
-use Rattle.std.proofs.Common.{Option}
+use Rattle.type_names.specs.declared.known.JavaNames.{JavaNames}
+use Rattle.type_names.specs.Known.{File}
 use Rattle.written_types.specs.Places.{Place}
-use Rattle.type_headers.specs.Declared.{Declaration, header}
-use Rattle.program_world.specs.ProgramWorld.{supers_of, methods_of, fields_of, type_info}
-use Rattle.program_world.specs.Steps.{with_type}
+use Rattle.type_headers.specs.Declared.{Declaration, declarations, header, headers, place_of}
+use Rattle.built_in_types.specs.declared.types.BuiltIns.{BuiltIns}
+use Rattle.program_world.specs.ProgramWorld.{supers_of, methods_of, fields_of, type_info, infos_from, methods_from, fields_from, place_among, world_of}
+use Rattle.program_world.specs.Steps.{with_type, with_types}
 
 pub same_world : (types us : List TypeInfo) (methods ms : List MethodInfo) (fields ns : List FieldInfo) (walk : Option Walk) (above : List Above)
     → types ≡ us → methods ≡ ms → fields ≡ ns
@@ -57,3 +60,56 @@ type_added p x w owner first_method first_field end_method end_field types metho
     (range_with_len (length w.fields) (length (fields_of p (length w.types) x.decl))) is_header are_supers numbers others in
     same_world types (w.types ++ type_info p (length w.types) (length w.methods) (length w.fields) x ∷ []) methods (w.methods ++ methods_of p (length w.types) x.decl)
     fields (w.fields ++ fields_of p (length w.types) x.decl) w.walk w.above (push ∙ ap (λ i. w.types ++ i ∷ []) info) own_methods own_fields
+
+-- ---- all declarations
+
+abbrev grown : (Declaration → Place) → List Declaration → World → World
+grown at xs w = record {
+  types = w.types ++ infos_from at (length w.types) (length w.methods) (length w.fields) xs;
+  methods = w.methods ++ methods_from at (length w.types) xs;
+  fields = w.fields ++ fields_from at (length w.types) xs;
+  walk = w.walk;
+  above = w.above;
+}
+
+all_added : (at : Declaration → Place) (xs : List Declaration) (w : World) → with_types at xs w ≡ grown at xs w
+all_added at [] w = same_world w.types (w.types ++ []) w.methods (w.methods ++ []) w.fields (w.fields ++ []) w.walk w.above (sym (append-nil w.types)) (sym (append-nil w.methods)) (sym (append-nil w.fields))
+all_added at (x ∷ xs) w =
+    let c = length w.types in
+    let m = length w.methods in
+    let n = length w.fields in
+    let info = type_info (at x) c m n x in
+    let own_methods = methods_of (at x) c x.decl in
+    let own_fields = fields_of (at x) c x.decl in
+    let next : length (w.types ++ info ∷ []) ≡ c + 1 = length-append w.types (info ∷ []) in
+    all_added at xs (with_type (at x) x w)
+    ∙ same_world
+    ((w.types ++ info ∷ []) ++ infos_from at (length (w.types ++ info ∷ [])) (length (w.methods ++ own_methods)) (length (w.fields ++ own_fields)) xs)
+    (w.types ++ info ∷ infos_from at (c + 1) (m + length own_methods) (n + length own_fields) xs)
+    ((w.methods ++ own_methods) ++ methods_from at (length (w.types ++ info ∷ [])) xs) (w.methods ++ (own_methods ++ methods_from at (c + 1) xs))
+    ((w.fields ++ own_fields) ++ fields_from at (length (w.types ++ info ∷ [])) xs) (w.fields ++ (own_fields ++ fields_from at (c + 1) xs))
+    w.walk w.above
+    (append_assoc w.types (info ∷ []) (infos_from at (length (w.types ++ info ∷ [])) (length (w.methods ++ own_methods)) (length (w.fields ++ own_fields)) xs)
+    ∙ ap (λ k. w.types ++ info ∷ infos_from at k (length (w.methods ++ own_methods)) (length (w.fields ++ own_fields)) xs) next
+    ∙ ap (λ k. w.types ++ info ∷ infos_from at (c + 1) k (length (w.fields ++ own_fields)) xs) (length-append w.methods own_methods)
+    ∙ ap (λ k. w.types ++ info ∷ infos_from at (c + 1) (m + length own_methods) k xs) (length-append w.fields own_fields))
+    (append_assoc w.methods own_methods (methods_from at (length (w.types ++ info ∷ [])) xs) ∙ ap (λ k. w.methods ++ (own_methods ++ methods_from at k xs)) next)
+    (append_assoc w.fields own_fields (fields_from at (length (w.types ++ info ∷ [])) xs) ∙ ap (λ k. w.fields ++ (own_fields ++ fields_from at k xs)) next)
+
+-- the world of a program
+pub world_made : (built : BuiltIns) (j : JavaNames) (fs : List File) (types : List TypeInfo) (w all : World) → length built.types ≡ 16 → types ≡ headers built.types fs
+    → w ≡ record { types = built.types; methods = built.methods; fields = built.fields; walk = None; above = [] }
+    → all ≡ with_types (place_of j fs types) (declarations fs) w → all ≡ world_of built j fs
+world_made built j fs types w all size heads begun added =
+    let first : World = record { types = built.types; methods = built.methods; fields = built.fields; walk = None; above = [] } in
+    let at = place_among built j fs in
+    let xs = declarations fs in
+    added ∙ ap (λ hs. with_types (place_of j fs hs) xs w) heads ∙ ap (with_types at xs) begun ∙ all_added at xs first
+    ∙ same_world
+    (built.types ++ infos_from at (length built.types) (length built.methods) (length built.fields) xs) (built.types ++ infos_from at 16 (length built.methods) (length built.fields) xs)
+    (built.methods ++ methods_from at (length built.types) xs) (built.methods ++ methods_from at 16 xs)
+    (built.fields ++ fields_from at (length built.types) xs) (built.fields ++ fields_from at 16 xs)
+    None []
+    (ap (λ c. built.types ++ infos_from at c (length built.methods) (length built.fields) xs) size)
+    (ap (λ c. built.methods ++ methods_from at c xs) size)
+    (ap (λ c. built.fields ++ fields_from at c xs) size)
