@@ -9,11 +9,12 @@ ghost use Rattle.rule_order.specs.Noted.{Adds};
 ghost use Rattle.written_types.specs.Places.{Place, IsPlace};
 ghost use Rattle.written_types.specs.Types.{type_of};
 ghost use Rattle.declared_types.specs.Rules.{NamesNoType, BreaksSuper};
-ghost use Rattle.declared_types.specs.Looks.{HoldsSpelled, BreaksBehind};
+ghost use Rattle.declared_types.specs.Spelling.{is_spelled, HoldsSpelled};
+ghost use Rattle.declared_types.specs.Looks.{BreaksBehind};
 ghost use Rattle.declared_types.specs.Looks as spec;
 
 use crate::members::{note_members, note_types};
-use crate::spelling::spell;
+use crate::spelling::{Sign, spell};
 use class_world::TypeInfo;
 use java_tree::NoMemory;
 use java_tree::tree::{Mod, TypeDecl, TypeExpr};
@@ -79,16 +80,16 @@ fn push_spelled(
     alloc: Global,
     scope: &Scope<'_>,
     x: &TypeExpr,
-    seen: &mut HashSet<Vec<usize>>,
+    seen: &mut HashSet<Vec<Sign>>,
 ) -> Result<bool, NoMemory>
     ensures again { (p : Place) (before : List t.TypeExpr) → IsPlace scope.now p → HoldsSpelled p seen.old before
-        → IfOk result (λ r. r ≡ spec.is_spelled p before (type_plain x.now)) }
+        → IfOk result (λ r. r ≡ is_spelled p before (type_plain x.now)) }
     ensures held { (p : Place) (before : List t.TypeExpr) → IsPlace scope.now p → HoldsSpelled p seen.old before
         → OnOk result (HoldsSpelled p seen.new (before ++ type_plain x.now ∷ [])) }
 {
-    let mut key = Vec::new(alloc);
-    spell(scope, x, &mut key)?;
-    let is_new = seen.insert(key)?;
+    let mut signs = Vec::new(alloc);
+    spell(scope, x, &mut signs)?;
+    let is_new = seen.insert(signs)?;
     Ok(!is_new)
 }
 
@@ -98,7 +99,7 @@ fn note_supers(
     scope: &Scope<'_>,
     wants_class: bool,
     xs: &[TypeExpr],
-    seen: &mut HashSet<Vec<usize>>,
+    seen: &mut HashSet<Vec<Sign>>,
     mut first: Option<Breach>,
 ) -> Result<Option<Breach>, NoMemory>
     ensures adds { (p : Place) (before : List t.TypeExpr) → IsPlace scope.now p → HoldsSpelled p seen.old before
