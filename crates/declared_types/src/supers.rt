@@ -34,6 +34,7 @@ fn is_final(mods: &[Mod]) -> bool
     false
 }
 
+// Whether the type of a number, if there is one, is of the wrong kind, final or, without arguments, raw.
 fn is_unfit_type(types: &[TypeInfo], number: u32, wants_class: bool, bare: bool) -> bool
     ensures { result ≡ spec.unfit_info wants_class bare (slice_get types.now number) }
 {
@@ -61,13 +62,14 @@ fn is_unfit(scope: &Scope<'_>, wants_class: bool, x: &TypeExpr) -> bool
     }
 }
 
+// Whether a written type says a type.
 fn is_typed(scope: &Scope<'_>, x: &TypeExpr) -> bool
     ensures { (p : Place) → IsPlace scope.now p → result ≡ is_some (type_of p (type_plain x.now)) }
 {
     first_ill_named(scope, x).is_none()
 }
 
-// Whether a supertype is unfit, or says a type again that is spelled like it.
+// Whether a supertype is unfit, or says what an earlier type says that is spelled the same.
 fn is_wrong(scope: &Scope<'_>, wants_class: bool, again: bool, x: &TypeExpr) -> bool
     ensures { (p : Place) → IsPlace scope.now p
         → result ≡ (spec.is_unfit scope.now.types.now p wants_class (type_plain x.now) || (again && is_some (type_of p (type_plain x.now)))) }
@@ -75,7 +77,7 @@ fn is_wrong(scope: &Scope<'_>, wants_class: bool, again: bool, x: &TypeExpr) -> 
     is_unfit(scope, wants_class, x) || (again && is_typed(scope, x))
 }
 
-// Whether an earlier type spells the same; it is among them from now on.
+// Whether an earlier type is spelled the same; this one is among them from now on.
 fn push_spelled(
     alloc: Global,
     scope: &Scope<'_>,
