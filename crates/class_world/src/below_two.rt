@@ -67,7 +67,7 @@ fn generic_classes(alloc: Global, w: &World) -> Result<Vec<bool>, NoMemory>
     Ok(infos.map(|info| 0 < info.params).collect(alloc)?)
 }
 
-/// Whether a class with its own variables is below two parameterizations of one class. What is above it is listed, each type once, until two of them come together; at most two types of each class are.
+/// Whether a class with its own variables is below two parameterizations of one class. Lists what is above it until two of them come together: of each class at most the type without arguments and one with some.
 fn is_below_two(alloc: Global, w: &World, places: &mut [usize], c: u32) -> Result<bool, NoMemory>
     requires supers { HaveClassSupers w.now }
     requires size { length places.old ≡ length w.now.types }
@@ -88,7 +88,7 @@ fn is_below_two(alloc: Global, w: &World, places: &mut [usize], c: u32) -> Resul
     Ok(false)
 }
 
-/// Adds the declared supertypes of the type at a place of the list, those that the list doesn't cover. `false` where two parameterizations of one class come together.
+/// Adds the declared supertypes of the type at a place of the list, those that it doesn't cover. `false` where two parameterizations of one class come together.
 fn add_supers(
     alloc: Global,
     w: &World,
