@@ -1,2 +1,17 @@
-//! Which nodes of a directed graph reach which.
+//! Which nodes of a directed graph lead to which.
 #![tactic(auto)]
+
+mod cycles;
+mod marked;
+mod search;
+mod sources;
+#[cfg(test)]
+mod tests;
+
+pub use cycles::{first_on_cycle, on_cycles};
+pub use marked::reaching;
+
+use java_tree::Items;
+
+/// A directed graph: the targets of each node, whose number is its place. A target that is no node's number counts as nothing.
+pub type Graph = Items<Items<u32>>;

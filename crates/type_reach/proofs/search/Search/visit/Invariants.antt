@@ -1,0 +1,11 @@
+use Rattle.type_reach.specs.Paths.{Searches, KeepsMet, work}
+use Rattle.type_reach.proofs.search.Search.visit.Given as goal
+
+abbrev pub invariant-loop-part : goal.invariant-loop-part
+invariant-loop-part l = record {
+  search : Searches l.graph l.self;
+  kept : KeepsMet l.initial.self.stages.items l.self.stages.items;
+}
+
+abbrev pub decreases-loop-part : goal.decreases-loop-part
+decreases-loop-part l = work l.graph l.self
