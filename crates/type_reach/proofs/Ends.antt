@@ -1,26 +1,50 @@
 -- How the search for cycles begins, leaves a part, and ends.
-use Rattle.std.proofs.Common.{◌≡◌, ℕ, ◌+◌, ◌-◌, ◌<◌, ◌≤◌, zero, suc, Bool, true, false, List, [], ◌∷◌, ◌++◌, Some, ◌⊎◌, inl, inr, ◌↔◌, refl, sym, ap, ◌∙◌, subst, length, take, drop, arith}
+use Rattle.std.proofs.Common.{◌≡◌, ℕ, ◌+◌, ◌-◌, ◌<◌, ◌≤◌, zero, suc, Bool, true, false, List, [], ◌∷◌, ◌++◌, Option, Some, None, map, ◌⊎◌, inl, inr, ◌↔◌, refl, sym, ap, ◌∙◌, subst, length, take, drop, arith}
 use Rattle.std.specs.Prelude.{slice_get, Contains}
-use Rattle.std.proofs.lemmas.Option.{slice_get_within}
-use Rattle.std.proofs.lemmas.List.{length_push, length-take-le}
+use Rattle.std.specs.Option.{option_map}
+use Rattle.std.proofs.lemmas.Option.{slice_get_within, slice_get-map}
+use Rattle.std.proofs.lemmas.List.{length-take-le}
 use Rattle.type_reach.specs.Reach.{IsEdge, Leads, step, further}
 use Rattle.type_reach.specs.Sources.{HasTarget}
 use Rattle.type_reach.specs.declared.search.Stage.{Stage}
 use Rattle.type_reach.specs.declared.search.Stage.TheVariants as stage
 use Rattle.type_reach.specs.declared.search.Part.{Part}
-use Rattle.type_reach.specs.Paths.{Ways, IsDone, IsAhead, IsMet, IsCycle, IsSearch, IsSet, is_new}
+use Rattle.type_reach.specs.Paths.{IsDone, IsCycle, IsSearch, IsSet, is_new, is_on_cycle}
 use Rattle.type_reach.specs.Spread.{left}
-use Rattle.type_reach.proofs.Lists.{at_front, at_last, last_cases, same_or_other, taken, taken_back, dropped, dropped_back, contains_at, at_contains, left_falls}
+use Rattle.type_reach.proofs.Lists.{at_front, at_last, last_cases, taken, taken_back, dropped, dropped_back, there_is, contains_at, at_contains, left_falls}
+use Rattle.type_reach.proofs.Steps.{under_last, none_open}
 use Rattle.type_reach.proofs.Ways.{edge_of, joined, apart, along}
 
+pub search_ends : (g : List (List ℕ)) (stages : List Stage) (path targets : List ℕ) (parts : List Part) → parts ≡ [] → IsSearch g stages path targets parts
+    → ((a : ℕ) → a < length g → slice_get stages a ≡ Some stage.New → ⊥) → (a : ℕ) → (slice_get (map is_on_cycle stages) a ≡ Some true) ↔ Leads g a a
+search_ends g stages path targets parts empty h all a = (λ e. on (slice_get stages a) refl (sym (slice_get-map is_on_cycle stages a) ∙ e), back)
+  where
+    on : (o : Option Stage) → slice_get stages a ≡ o → option_map is_on_cycle o ≡ Some true → Leads g a a
+    on None is e = absurd (cc e)
+    on (Some stage.New) is e = absurd (cc e)
+    on (Some (stage.Open i)) is e = absurd (cc e)
+    on (Some (stage.Done c)) is e = (h.right a c is).0 (cc e)
+
+    begins : {b : ℕ} → Leads g a b → a < length g
+    begins (step edge) = slice_get_within g a edge.0 edge.1
+    begins (further edge rest) = slice_get_within g a edge.0 edge.1
+
+    back : Leads g a a → slice_get (map is_on_cycle stages) a ≡ Some true
+    back way = by (there_is stages a (subst (λ n. a < n) (sym h.size) (begins way)))
+      where
+        by : ((x : Stage) × (slice_get stages a ≡ Some x)) → slice_get (map is_on_cycle stages) a ≡ Some true
+        by (stage.New, is) = absurd (all a (begins way) is)
+        by (stage.Open i, is) = absurd (none_open g stages path targets parts empty h a i is)
+        by (stage.Done c, is) = slice_get-map is_on_cycle stages a ∙ ap (option_map is_on_cycle) is ∙ ap Some ((h.right a c is).1 way)
+
 module _ (g : List (List ℕ)) (stages closed : List Stage) (path targets : List ℕ) (parts : List Part) (part : Part) (on_cycle : Bool)
-  (h : IsSearch g stages path targets (parts ++ part ∷ [])) (followed : length targets ≤ part.target)
-  (same : IsSet stages closed (stage.Done on_cycle) (drop part.node path)) where
+    (h : IsSearch g stages path targets (parts ++ part ∷ [])) (followed : length targets ≤ part.target)
+    (same : IsSet stages closed (stage.Done on_cycle) (drop part.node path)) where
   part_at : slice_get (parts ++ part ∷ []) (length parts) ≡ Some part
   part_at = at_last parts part
 
   under : (k : ℕ) (p : Part) → slice_get (parts ++ part ∷ []) k ≡ Some p → (p.node ≤ part.node) × (p.target ≤ part.target)
-  under k p is = let lt = slice_get_within (parts ++ part ∷ []) k p is in h.sorted k (length parts) p part (omega (arith, lt, length_push parts part)) is part_at
+  under = under_last g stages path targets parts part h
 
   old_part : (k : ℕ) (p : Part) → slice_get parts k ≡ Some p → slice_get (parts ++ part ∷ []) k ≡ Some p
   old_part k p is = at_front parts (part ∷ []) k p is
@@ -34,10 +58,10 @@ module _ (g : List (List ℕ)) (stages closed : List Stage) (path targets : List
 
   stays : (a i : ℕ) → slice_get path i ≡ Some a → i < part.node → slice_get closed a ≡ slice_get stages a
   stays a i is lt = same.kept a (λ inside.
-    let m = member a inside in
-    let one : Some (stage.Open i) ≡ Some (stage.Open m.0) = sym (h.at i a is) ∙ h.at m.0 a m.2 in
-    let number : i ≡ m.0 = cc one in
-    absurd (omega (arith, number, lt, m.1)))
+      let m = member a inside in
+      let one : Some (stage.Open i) ≡ Some (stage.Open m.0) = sym (h.at i a is) ∙ h.at m.0 a m.2 in
+      let number : i ≡ m.0 = cc one in
+      absurd (omega (arith, number, lt, m.1)))
 
   done_stays : (a : ℕ) (c : Bool) → slice_get stages a ≡ Some (stage.Done c) → slice_get closed a ≡ Some (stage.Done c)
   done_stays a c is = same.kept a (λ inside. let m = member a inside in let never : Some (stage.Done c) ≡ Some (stage.Open m.0) = sym is ∙ h.at m.0 a m.2 in absurd (cc never)) ∙ is
@@ -45,13 +69,8 @@ module _ (g : List (List ℕ)) (stages closed : List Stage) (path targets : List
   -- what a node's stage was
   cases : (a : ℕ) (s : Stage) → slice_get closed a ≡ Some s
       → ((i : ℕ) × (part.node ≤ i) × (slice_get path i ≡ Some a) × (s ≡ stage.Done on_cycle)) ⊎ (slice_get stages a ≡ Some s)
-  cases a s is = by_stage (there stages a (subst (λ n. a < n) same.size (slice_get_within closed a s is)))
+  cases a s is = by_stage (there_is stages a (subst (λ n. a < n) same.size (slice_get_within closed a s is)))
     where
-      there : (xs : List Stage) (i : ℕ) → i < length xs → (x : Stage) × (slice_get xs i ≡ Some x)
-      there [] i lt = absurd (omega (arith, lt))
-      there (x ∷ xs) zero lt = (x, refl)
-      there (x ∷ xs) (suc i) lt = there xs i (omega (arith, lt))
-
       by_place : (i : ℕ) → slice_get stages a ≡ Some (stage.Open i) → (i < part.node) ⊎ (part.node ≤ i)
           → ((i : ℕ) × (part.node ≤ i) × (slice_get path i ≡ Some a) × (s ≡ stage.Done on_cycle)) ⊎ (slice_get stages a ≡ Some s)
       by_place i was (inl lt) = inr (sym (stays a i (h.place a i was) lt) ∙ is)
@@ -94,15 +113,10 @@ module _ (g : List (List ℕ)) (stages closed : List Stage) (path targets : List
         other_place zero n lt = (1, lt, λ e. absurd (omega (arith, e)))
         other_place (suc m) n lt = (0, omega (arith, lt), λ e. absurd (omega (arith, e)))
 
-        there : (xs : List ℕ) (k : ℕ) → k < length xs → (x : ℕ) × (slice_get xs k ≡ Some x)
-        there [] k lt = absurd (omega (arith, lt))
-        there (x ∷ xs) zero lt = (x, refl)
-        there (x ∷ xs) (suc k) lt = there xs k (omega (arith, lt))
-
         by : IsCycle g (drop part.node path) → Leads g a a
         by (inl two) =
             let k = other_place (i - part.node) (length (drop part.node path)) two in
-            let b = there (drop part.node path) k.0 k.1 in
+            let b = there_is (drop part.node path) k.0 k.1 in
             way_round i (part.node + k.0) a b.0 is (dropped part.node k.0 path b.0 b.1) le (omega arith) (λ e. k.2 (omega (arith, e)))
         by (inr own) =
             let e : slice_get (own.0 ∷ []) (i - part.node) ≡ Some a = ap (λ xs. slice_get xs (i - part.node)) (sym own.1) ∙ dropped_back part.node i path a le is in

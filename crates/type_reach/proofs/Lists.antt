@@ -1,5 +1,5 @@
 -- Places in lists.
-use Rattle.std.proofs.Common.{◌≡◌, ℕ, ◌+◌, ◌-◌, ◌<◌, ◌≤◌, zero, suc, Bool, true, false, cond, List, [], ◌∷◌, ◌++◌, Option, Some, None, ◌⊎◌, inl, inr, refl, sym, ap, ◌∙◌, subst, length, take, drop, arith}
+use Rattle.std.proofs.Common.{◌≡◌, ℕ, ◌+◌, ◌-◌, ◌<◌, ◌≤◌, zero, suc, Bool, true, false, cond, List, [], ◌∷◌, ◌++◌, Some, ◌⊎◌, inl, inr, refl, sym, ap, ◌∙◌, length, take, drop, arith}
 use Rattle.std.specs.Prelude.{slice_get, slice_set, Contains}
 use Rattle.std.proofs.lemmas.Option.{slice_get_within, slice_get-get_or, get_or_from_slice_get}
 use Rattle.type_reach.specs.Spread.{left}
@@ -66,6 +66,11 @@ dropped_back zero i xs a h e = ap (slice_get xs) (let s : i - 0 ≡ i = omega ar
 dropped_back (suc n) zero xs a h e = absurd (omega (arith, h))
 dropped_back (suc n) (suc i) [] a h e = absurd (cc e)
 dropped_back (suc n) (suc i) (x ∷ xs) a h e = ap (slice_get (drop n xs)) (let s : suc i - suc n ≡ i - n = omega arith in s) ∙ dropped_back n i xs a (omega (arith, h)) e
+
+pub there_is : {A : Type 0} (xs : List A) (i : ℕ) → i < length xs → (x : A) × (slice_get xs i ≡ Some x)
+there_is [] i lt = absurd (omega (arith, lt))
+there_is (x ∷ xs) zero lt = (x, refl)
+there_is (x ∷ xs) (suc i) lt = there_is xs i (omega (arith, lt))
 
 pub contains_at : {A : Type 0} (xs : List A) (a : A) → Contains xs a → (k : ℕ) × (slice_get xs k ≡ Some a)
 contains_at xs a h = (h.0, slice_get-get_or xs h.0 a h.1 ∙ ap Some h.2)

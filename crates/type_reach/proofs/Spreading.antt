@@ -1,13 +1,13 @@
 -- The search from marked nodes against the edges, step by step.
-use Rattle.std.proofs.Common.{◌≡◌, ℕ, ◌+◌, ◌<◌, ◌≤◌, zero, suc, Bool, true, false, List, [], ◌∷◌, ◌++◌, Some, ◌⊎◌, inl, inr, ◌↔◌, refl, sym, ap, ◌∙◌, subst, length, arith}
-use Rattle.std.specs.Prelude.{slice_get, slice_set, Contains, replicate, not}
+use Rattle.std.proofs.Common.{◌≡◌, ℕ, ◌<◌, ◌≤◌, zero, suc, Bool, true, false, List, [], ◌∷◌, ◌++◌, Some, ◌⊎◌, inl, inr, ◌↔◌, refl, sym, ap, ◌∙◌, subst, length, arith}
+use Rattle.std.specs.Prelude.{slice_get, slice_set, Contains, replicate}
 use Rattle.std.proofs.lemmas.Option.{slice_get_within}
-use Rattle.std.proofs.lemmas.List.{length-set, length-replicate, length_push, length-append}
+use Rattle.std.proofs.lemmas.List.{length-set, length-replicate}
 use Rattle.std.proofs.lemmas.List.Elements.{Contains-append_left, Contains-append_right, Contains-append_cases, Contains-push_cases}
 use Rattle.type_reach.specs.Reach.{IsEdge, Leads, Reaches, step, further}
-use Rattle.type_reach.specs.Sources.{HasTarget, IsReverse}
-use Rattle.type_reach.specs.Spread.{IsSpread, left}
-use Rattle.type_reach.proofs.Lists.{same_or_other, set_here, set_there, left_set, contains_at, at_contains}
+use Rattle.type_reach.specs.Sources.{IsReverse}
+use Rattle.type_reach.specs.Spread.{IsSpread}
+use Rattle.type_reach.proofs.Lists.{same_or_other, set_here, set_there}
 use Rattle.type_reach.proofs.Ways.{against}
 
 none_set : (n a : ℕ) → slice_get (replicate n false) a ≡ Some true → ⊥

@@ -1,16 +1,15 @@
 -- The search for cycles, step by step.
-use Rattle.std.proofs.Common.{◌≡◌, ℕ, ◌+◌, ◌<◌, ◌≤◌, zero, suc, Bool, true, false, List, [], ◌∷◌, ◌++◌, Some, ◌⊎◌, inl, inr, ◌↔◌, refl, sym, ap, ◌∙◌, subst, length, take, arith}
+use Rattle.std.proofs.Common.{◌≡◌, ℕ, ◌+◌, ◌<◌, ◌≤◌, false, List, [], ◌∷◌, ◌++◌, Some, ◌⊎◌, inl, inr, sym, ap, ◌∙◌, subst, length, arith}
 use Rattle.std.specs.Prelude.{slice_get, slice_set, Contains}
 use Rattle.std.proofs.lemmas.Option.{slice_get_within}
 use Rattle.std.proofs.lemmas.List.{length-set, length_push, length-append}
-use Rattle.type_reach.specs.Reach.{IsEdge, Leads, step, further}
-use Rattle.type_reach.specs.Sources.{HasTarget}
+use Rattle.type_reach.specs.Reach.{IsEdge, Leads, step}
 use Rattle.type_reach.specs.declared.search.Stage.{Stage}
 use Rattle.type_reach.specs.declared.search.Stage.TheVariants as stage
 use Rattle.type_reach.specs.declared.search.Part.{Part}
-use Rattle.type_reach.specs.Paths.{Ways, IsDone, IsAhead, IsTargetAhead, IsSourceAhead, IsMet, IsSearch}
+use Rattle.type_reach.specs.Paths.{IsDone, IsAhead, IsMet, IsSearch}
 use Rattle.type_reach.proofs.Lists.{at_front, at_end, at_cases, at_last, last_cases, same_or_other, set_here, set_there, contains_at, at_contains}
-use Rattle.type_reach.proofs.Ways.{edge_of, joined, behind, before}
+use Rattle.type_reach.proofs.Ways.{edge_of, behind, before}
 
 module _ (g : List (List ℕ)) (stages : List Stage) (path : List ℕ) where
   -- a part more
@@ -70,9 +69,9 @@ module _ (g : List (List ℕ)) (stages : List Stage) (path : List ℕ) where
         chain = λ i j x y is_x is_y ahead. elim (below_or_not part.node i j) [
           | inl here ↦ h.chain i j x y is_x is_y (more_ahead parts part i j here ahead)
           | inr apart ↦ inr (before g x src.1 y
-            (h.chain i src.0 x src.1 is_x src.2 (λ k p is le. let lt = slice_get_within all k p is in
+              (h.chain i src.0 x src.1 is_x src.2 (λ k p is le. let lt = slice_get_within all k p is in
               let under = (h.sorted k (length parts) p part (omega (arith, lt, length_push parts part)) is part_is).0 in omega (arith, under, top)))
-            (behind g src.1 b y (step edge)
+              (behind g src.1 b y (step edge)
               (h.chain at j b y (h.place b at open_is) is_y (more_ahead parts part at j (inl back) (λ k p is le. ahead k p is (omega (arith, le, back, apart)))))))
         ];
         sorted = λ k l p q le is is'. h.sorted k l p q le (kept k p is) (kept l q is');
@@ -161,9 +160,11 @@ module _ (g : List (List ℕ)) (stages : List Stage) (path : List ℕ) where
       | inl old ↦
           let s = h.source e b (fewer e b old) in
           let lt = slice_get_within targets e b old in
-          let inside = slice_get_within path s.0 s.1 s.2 in
-          (
-            s.0, s.1, at_front path (a ∷ []) s.0 s.1 s.2, s.3,
+          let inside = slice_get_within path s.0 s.1 s.2 in (
+            s.0,
+            s.1,
+            at_front path (a ∷ []) s.0 s.1 s.2,
+            s.3,
             λ k p is' le. elim (last_cases parts part p k is') [
               | inl at ↦ s.4 k p at le
               | inr last ↦ let p_target : p.target ≡ length targets = ap (λ (x : Part). x.target) last.0 in absurd (omega (arith, p_target, le, lt))
@@ -174,7 +175,10 @@ module _ (g : List (List ℕ)) (stages : List Stage) (path : List ℕ) where
             ],
           )
       | inr added ↦ (
-        n, a, at_last path a, (more, row, at_contains more added.0 b added.2),
+        n,
+        a,
+        at_last path a,
+        (more, row, at_contains more added.0 b added.2),
         λ k p is' le. elim (last_cases parts part p k is') [
           | inl at ↦ (h.within k p at).0
           | inr last ↦ omega (arith, ap (λ (x : Part). x.node) last.0)
@@ -191,10 +195,14 @@ module _ (g : List (List ℕ)) (stages : List Stage) (path : List ℕ) where
           let number : n ≡ i = cc e in
           let rows : more ≡ edge.0 = cc (row, ap (slice_get g) same ∙ edge.1) in
           let at = contains_at more b (subst (λ r. Contains r b) (sym rows) edge.2) in
-          inr (inr (length targets + at.0, at_end targets more at.0 ∙ at.1, λ k p is' le. elim (last_cases parts part p k is') [
-            | inl old ↦ let target = low k p old in omega (arith, target)
-            | inr last ↦ omega (arith, ap (λ (x : Part). x.target) last.0)
-          ]))
+          inr (inr (
+            length targets + at.0,
+            at_end targets more at.0 ∙ at.1,
+            λ k p is' le. elim (last_cases parts part p k is') [
+              | inl old ↦ let target = low k p old in omega (arith, target)
+              | inr last ↦ omega (arith, ap (λ (x : Part). x.target) last.0)
+            ],
+          ))
       | inr other ↦
           let i_is = was x (stage.Open i) other is in
           let lt = slice_get_within path i x (h.place x i i_is) in
@@ -202,10 +210,14 @@ module _ (g : List (List ℕ)) (stages : List Stage) (path : List ℕ) where
             | inl done ↦ inl (done.0, kept b (stage.Done done.0) done.1 (λ e. cc e))
             | inr (inl found) ↦ inr (inl (found.0, kept b (stage.Open found.0) found.1 (λ e. cc e), more_ahead parts part i found.0 (inl lt) found.2))
             | inr (inr due) ↦ elim (taken due.0 b due.1) [
-              | inl stays ↦ inr (inr (due.0, at_front targets more due.0 b stays, λ k p is' le. elim (last_cases parts part p k is') [
-                | inl old ↦ due.2 k p old le
-                | inr last ↦ let p_node : p.node ≡ n = ap (λ (x : Part). x.node) last.0 in absurd (omega (arith, p_node, le, lt))
-              ]))
+              | inl stays ↦ inr (inr (
+                due.0,
+                at_front targets more due.0 b stays,
+                λ k p is' le. elim (last_cases parts part p k is') [
+                  | inl old ↦ due.2 k p old le
+                  | inr last ↦ let p_node : p.node ≡ n = ap (λ (x : Part). x.node) last.0 in absurd (omega (arith, p_node, le, lt))
+                ],
+              ))
               | inr is_a ↦ inr (inl (n, ap (slice_get opened) is_a ∙ here, λ k p is' le. omega (arith, le, lt)))
             ]
           ]
@@ -243,3 +255,55 @@ module _ (g : List (List ℕ)) (stages : List Stage) (path : List ℕ) where
 
       fewer_ahead : (i j : ℕ) → IsAhead (parts ++ part ∷ []) i j → IsAhead parts i j
       fewer_ahead i j ahead k p is le = ahead k p (at_front parts (part ∷ []) k p is) le
+
+  -- no part begins behind the last one
+  pub under_last : (targets : List ℕ) (parts : List Part) (part : Part) → IsSearch g stages path targets (parts ++ part ∷ [])
+      → (k : ℕ) (p : Part) → slice_get (parts ++ part ∷ []) k ≡ Some p → (p.node ≤ part.node) × (p.target ≤ part.target)
+  under_last targets parts part h k p is =
+      let lt = slice_get_within (parts ++ part ∷ []) k p is in
+      h.sorted k (length parts) p part (omega (arith, lt, length_push parts part)) is (at_last parts part)
+
+  -- the target on top is new
+  pub search_follows : (targets more : List ℕ) (b : ℕ) (parts : List Part) (part : Part) → IsSearch g stages path (targets ++ b ∷ []) (parts ++ part ∷ []) → part.target ≤ length targets
+      → slice_get stages b ≡ Some stage.New → slice_get g b ≡ Some more
+      → IsSearch g (slice_set stages b (stage.Open (length path))) (path ++ b ∷ []) (targets ++ more) ((parts ++ part ∷ []) ++ record { node = length path; target = length targets } ∷ [])
+  search_follows targets more b parts part h low new row =
+      let all = parts ++ part ∷ [] in
+      let part_is : slice_get all (length parts) ≡ Some part = at_last parts part in
+      let under = under_last (targets ++ b ∷ []) parts part h in
+      let src = h.source (length targets) b (at_last targets b) in
+      let top : part.node ≤ src.0 = src.4 (length parts) part part_is low in
+      search_enters (targets ++ b ∷ []) targets more b all h new
+      (λ i x is. before g x src.1 b (h.chain i src.0 x src.1 is src.2 (λ k p at le. let most = (under k p at).0 in omega (arith, most, top))) (step (edge_of g src.1 b src.3 (slice_get_within g b more row))))
+      (λ e c is. at_front targets (b ∷ []) e c is)
+      (λ e c is. elim (last_cases targets b c e is) [ inl was ↦ inl was | inr last ↦ inr last.0 ])
+      (λ k p is. let most = (under k p is).1 in omega (arith, most, low)) row
+
+  -- the first node of a path
+  pub search_starts : (targets more : List ℕ) (a : ℕ) (parts : List Part) → parts ≡ [] → IsSearch g stages path targets parts → slice_get stages a ≡ Some stage.New → slice_get g a ≡ Some more
+      → IsSearch g (slice_set stages a (stage.Open (length path))) (path ++ a ∷ []) (targets ++ more) (parts ++ record { node = length path; target = length targets } ∷ [])
+  search_starts targets more a parts empty h new row =
+      search_enters targets targets more a parts h new (λ i x is. let c = h.covered i x is in absurd (none c.0 c.1 c.2)) (λ e b is. is) (λ e b is. inl is) (λ k p is. absurd (none k p is)) row
+    where
+      none : (k : ℕ) (p : Part) → slice_get parts k ≡ Some p → ⊥
+      none k p is = let never : slice_get [] k ≡ Some p = ap (λ ps. slice_get ps k) (sym empty) ∙ is in cc never
+
+-- where there are no parts, a node is new or done
+pub none_open : (g : List (List ℕ)) (stages : List Stage) (path targets : List ℕ) (parts : List Part) → parts ≡ [] → IsSearch g stages path targets parts
+    → (a i : ℕ) → slice_get stages a ≡ Some (stage.Open i) → ⊥
+none_open g stages path targets parts empty h a i is =
+    let c = h.covered i a (h.place a i is) in
+    let never : slice_get [] c.0 ≡ Some c.1 = ap (λ ps. slice_get ps c.0) (sym empty) ∙ c.2 in
+    cc never
+
+-- a node that is opened is no longer new
+pub opened_kept : (stages : List Stage) (a i b : ℕ) → slice_get (slice_set stages a (stage.Open i)) b ≡ Some stage.New → a < length stages → slice_get stages b ≡ Some stage.New
+opened_kept stages a i b is lt = elim (same_or_other a b) [
+  | inl same ↦ let never : Some (stage.Open i) ≡ Some stage.New = sym (set_here stages a (stage.Open i) lt) ∙ ap (slice_get (slice_set stages a (stage.Open i))) same ∙ is in absurd (cc never)
+  | inr other ↦ sym (set_there stages a b (stage.Open i) other) ∙ is
+]
+
+-- what the code reads of a stage that is not `Done`
+pub not_past : (stages : List Stage) (b : ℕ) (x y : Stage) → (slice_get stages b ≡ Some x) ⊎ ((length stages ≤ b) × (x ≡ stage.Done false)) → x ≡ y → (y ≡ stage.Done false → ⊥) → slice_get stages b ≡ Some y
+not_past stages b x y (inl is) e not = is ∙ ap Some e
+not_past stages b x y (inr past) e not = absurd (not (sym e ∙ past.1))

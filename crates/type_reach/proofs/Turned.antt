@@ -1,8 +1,8 @@
 -- A table of a list for each number, one number added to one of them.
-use Rattle.std.proofs.Common.{◌≡◌, ℕ, ◌+◌, ◌<◌, ◌≤◌, List, [], ◌∷◌, ◌++◌, Some, ◌⊎◌, inl, inr, ◌↔◌, refl, sym, ap, ◌∙◌, subst, length, take, get_or, arith}
+use Rattle.std.proofs.Common.{◌≡◌, ℕ, ◌+◌, ◌<◌, ◌≤◌, List, [], ◌∷◌, ◌++◌, Some, ◌⊎◌, inl, inr, ◌↔◌, sym, ap, ◌∙◌, subst, length, take, get_or, arith}
 use Rattle.std.specs.Prelude.{slice_get, slice_set, Contains}
-use Rattle.std.proofs.lemmas.Option.{slice_get_within, slice_get-get_or}
-use Rattle.std.proofs.lemmas.List.{length-set, take_more, take_all}
+use Rattle.std.proofs.lemmas.Option.{slice_get_within}
+use Rattle.std.proofs.lemmas.List.{take_more}
 use Rattle.std.proofs.lemmas.List.Elements.{Contains-append_left, Contains-append_right, Contains-push_cases}
 use Rattle.type_reach.specs.Reach.{IsEdge}
 use Rattle.type_reach.specs.Sources.{HasTarget}
@@ -26,7 +26,7 @@ abbrev pub Added : (old now : List (List ℕ)) → (node : ℕ) → List ℕ →
 Added old now node targets = (a b : ℕ) → HasTarget now b a ↔ (HasTarget old b a ⊎ ((a ≡ node) × Contains targets b × (b < length old)))
 
 module _ (old now : List (List ℕ)) (node : ℕ) (targets : List ℕ) (i t : ℕ) (lt : i < length targets) (is : get_or targets i 0 ≡ t) (size : length now ≡ length old)
-  (so_far : Added old now node (take i targets)) where
+    (so_far : Added old now node (take i targets)) where
   pub added_here : (row : List ℕ) → slice_get now t ≡ Some row → Added old (slice_set now t (row ++ node ∷ [])) node (take (i + 1) targets)
   added_here row row_is a b = (to, from)
     where
@@ -36,9 +36,11 @@ module _ (old now : List (List ℕ)) (node : ℕ) (targets : List ℕ) (i t : �
       old_still : HasTarget now b a → HasTarget (slice_set now t (row ++ node ∷ [])) b a
       old_still h = elim (same_or_other t b) [
         | inl same ↦
-            let row_same : h.0 ≡ row = cc (h.1, ap (slice_get now) same, row_is) in
-            (row ++ node ∷ [], ap (slice_get (slice_set now t (row ++ node ∷ []))) (sym same) ∙ set_here now t (row ++ node ∷ []) within,
-            Contains-append_left row (node ∷ []) a (subst (λ r. Contains r a) row_same h.2))
+            let row_same : h.0 ≡ row = cc (h.1, ap (slice_get now) same, row_is) in (
+              row ++ node ∷ [],
+              ap (slice_get (slice_set now t (row ++ node ∷ []))) (sym same) ∙ set_here now t (row ++ node ∷ []) within,
+              Contains-append_left row (node ∷ []) a (subst (λ r. Contains r a) row_same h.2),
+            )
         | inr other ↦ (h.0, set_there now t b (row ++ node ∷ []) other ∙ h.1, h.2)
       ]
 
@@ -61,8 +63,11 @@ module _ (old now : List (List ℕ)) (node : ℕ) (targets : List ℕ) (i t : �
       from (inl h) = old_still ((so_far a b).1 (inl h))
       from (inr h) = elim (taken_more targets i t b lt is h.1) [
         | inl before ↦ old_still ((so_far a b).1 (inr (h.0, before, h.2)))
-        | inr same ↦ (row ++ node ∷ [], ap (slice_get (slice_set now t (row ++ node ∷ []))) (sym same) ∙ set_here now t (row ++ node ∷ []) within,
-          Contains-append_right row (node ∷ []) a (0, omega arith, sym h.0))
+        | inr same ↦ (
+          row ++ node ∷ [],
+          ap (slice_get (slice_set now t (row ++ node ∷ []))) (sym same) ∙ set_here now t (row ++ node ∷ []) within,
+          Contains-append_right row (node ∷ []) a (0, omega arith, sym h.0),
+        )
       ]
 
   -- a target that is no node

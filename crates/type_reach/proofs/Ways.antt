@@ -1,6 +1,6 @@
 -- Ways put together.
-use Rattle.std.proofs.Common.{◌≡◌, ℕ, ◌<◌, List, ◌⊎◌, inl, inr, Some, subst, sym}
-use Rattle.std.specs.Prelude.{slice_get, Contains, length}
+use Rattle.std.proofs.Common.{◌≡◌, ℕ, ◌<◌, List, inl, inr, subst, sym}
+use Rattle.std.specs.Prelude.{length}
 use Rattle.type_reach.specs.Reach.{IsEdge, Leads, step, further}
 use Rattle.type_reach.specs.Sources.{HasTarget}
 use Rattle.type_reach.specs.Paths.{Ways}

@@ -1,8 +1,8 @@
 //! Which nodes lead to themselves.
 
-ghost use Rattle.std.specs.Prelude.{◌≡◌, ℕ, ◌<◌, length, slice_get, Some, true, ◌↔◌, IfOk, Contains};
+ghost use Rattle.std.specs.Prelude.{◌≡◌, ℕ, ◌<◌, length, map, slice_get, Some, true, ◌↔◌, IfOk};
 ghost use Rattle.type_reach.specs.Reach.{Leads, IsFirstOnCycle};
-ghost use Rattle.type_reach.specs.Paths as spec;
+ghost use Rattle.type_reach.specs.Paths.{is_on_cycle};
 
 use crate::Graph;
 use crate::search::{Search, Stage};
@@ -18,14 +18,17 @@ pub fn on_cycles(alloc: Global, graph: &Graph) -> Result<Vec<bool>, NoMemory>
     for node in 0..graph.len() {
         search.visit(graph, node)?;
     }
-    let answers = search.stages.iter().map(|stage| is_on_cycle(*stage));
-    Ok(answers.collect(alloc)?)
+    answers_of(alloc, search.stages.as_slice())
 }
 
-fn is_on_cycle(stage: Stage) -> bool
-    ensures { result ≡ spec.is_on_cycle stage }
+fn answers_of(alloc: Global, stages: &[Stage]) -> Result<Vec<bool>, NoMemory>
+    ensures { IfOk result (λ v. v.items ≡ map is_on_cycle stages.now) }
 {
-    matches!(stage, Stage::Done(true))
+    let mut answers = Vec::new(alloc);
+    for stage in stages {
+        answers.push(matches!(stage, Stage::Done(true)))?;
+    }
+    Ok(answers)
 }
 
 /// The first node, by number, from which a way leads back to itself. `NoMemory` also where that number is 2^32 or more.

@@ -9,9 +9,8 @@ mod sources;
 mod tests;
 
 pub use cycles::{first_on_cycle, on_cycles};
-pub use marked::reaching;
-
 use java_tree::Items;
+pub use marked::reaching;
 
 /// A directed graph: the targets of each node, whose number is its place. A target that is no node's number counts as nothing.
 pub type Graph = Items<Items<u32>>;

@@ -22,11 +22,7 @@ pub(crate) fn reversed(alloc: Global, graph: &Graph) -> Result<Vec<Items<usize>>
     Ok(sources)
 }
 
-fn add_source(
-    node: usize,
-    targets: &[u32],
-    sources: &mut Vec<Items<usize>>,
-) -> Result<(), NoMemory>
+fn add_source(node: usize, targets: &[u32], sources: &mut Vec<Items<usize>>) -> Result<(), NoMemory>
     ensures size { OnOk result (length sources.new.items ≡ length sources.old.items) }
     ensures added { OnOk result ((a b : ℕ) → HasTarget sources.new.items b a ↔ (HasTarget sources.old.items b a ⊎ ((a ≡ node) × Contains targets.now b × (b < length sources.old.items)))) }
 {

@@ -1,4 +1,4 @@
-use Rattle.std.proofs.Common.{ℕ, ◌+◌, length}
+use Rattle.std.proofs.Common.{◌+◌, length}
 use Rattle.std.specs.Prelude.{not}
 use Rattle.type_reach.specs.Spread.{IsSpread, left}
 use Rattle.type_reach.proofs.marked.reaching.Given as goal

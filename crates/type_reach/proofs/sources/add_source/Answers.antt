@@ -2,7 +2,6 @@ use Rattle.std.proofs.Common.{◌≡◌, ◌∙◌, ◌++◌, ◌∷◌, [], Som
 use Rattle.std.specs.Prelude.{slice_get, slice_set}
 use Rattle.std.proofs.lemmas.List.{take_all, length-set}
 use Rattle.std.proofs.lemmas.Option.{slice_get_read}
-use Rattle.type_reach.specs.Sources.{HasTarget}
 use Rattle.type_reach.proofs.Turned.{Added, added_here, added_nowhere}
 use Rattle.type_reach.proofs.sources.add_source.Goals as goal
 use Rattle.type_reach.proofs.sources.add_source.Goals.{then-at-len+in_ok-push, else-at-len}

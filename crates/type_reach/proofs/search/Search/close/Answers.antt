@@ -1,5 +1,4 @@
 use Rattle.std.proofs.Common.{◌≡◌, ◌-◌, ◌∙◌, ap, sym, subst, length, take, drop, true, ◌↔◌, arith}
-use Rattle.std.specs.Prelude.{IsTrue}
 use Rattle.std.proofs.lemmas.List.{take_rest}
 use Rattle.type_reach.specs.declared.search.Stage.TheVariants as stage
 use Rattle.type_reach.specs.Paths.{IsSearch, IsSet, IsCycle}
