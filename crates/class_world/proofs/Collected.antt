@@ -10,7 +10,7 @@ use Rattle.class_world.specs.declared.world.JavaType.TheVariants as ty
 use Rattle.class_world.specs.Types.{erased, variables, with_own, of_class, IsTypeOver}
 use Rattle.class_world.specs.Subtypes.{Subtype, same, through, declared, object, raw, IsDeclaredSuper, Parameterizes, IsBelowTwo}
 use Rattle.class_world.specs.Sound.{AreSupers, IsSuper, IsSet, IsRow, IsSingle, AreBases}
-use Rattle.class_world.specs.Merged.{Sets, IsListed, AreParameterized, AreSingle, IsPutOf, GainsPut, Clash, AreWithin, HasRow, HaveRows, AmongFirst, IsBase}
+use Rattle.class_world.specs.Merged.{Sets, IsListed, AreBelow, AreSingle, IsPutOf, Clash, AreWithin, HasRow, HaveRows, AmongFirst, IsBase}
 use Rattle.class_world.proofs.Forms.{same_class}
 use Rattle.class_world.proofs.Substs.{erased_class, variables_length}
 use Rattle.class_world.proofs.Orders.{class_parts, own_over, bare_over, class_above}
@@ -75,11 +75,14 @@ next_variable n vs new before made =
     let e : n + 1 ≡ suc n = omega arith in
     made ∙ ap (λ l. l ++ ty.Var n ∷ []) before ∙ ap (λ k. variables 0 n ++ ty.Var k ∷ []) (sym zero_first) ∙ sym (variables_last 0 n) ∙ ap (variables 0) (sym e)
 
-pub put_all_parameterized : (old new args more : List JavaType) (P : JavaType → Type 0) → GainsPut old new args more → ((u : JavaType) → IsPutOf args more u ↔ (((g : ℕ) × Parameterizes g u) × P u))
-    → AreParameterized old → AreParameterized new
-put_all_parameterized old new args more P gains told all k b at = elim ((gains b).0 (k, at)) [ inl was ↦ all was.0 b was.1 | inr put ↦ ((told b).0 put).0 ]
-
 module _ (w : World) (sound : AreSupers w) where
+  -- the class of a parameterized type above a class type is one of the world
+  base_below : (n c : ℕ) (xs : List JavaType) (t : JavaType) (g : ℕ) → IsTypeOver w n (ty.Class c xs) → Parameterizes g t → Subtype w (ty.Class c xs) t → g < length w.types
+  base_below n c xs t g over is up =
+      let high = class_above w sound n (ty.Class c xs) t up c xs refl over in
+      let parts = class_parts w n t g is.0 high.1 is.1 in
+      slice_get_within w.types g parts.0 parts.1
+
   -- the class c, what it declares, and its declared supertypes
   module _ (c : ℕ) (info : TypeInfo) (at : slice_get w.types c ≡ Some info) where
     own : JavaType
@@ -211,7 +214,7 @@ module _ (w : World) (sound : AreSupers w) where
 
     pub bases_of_super : (rows : List Above) (k : ℕ) (d : JavaType) (args more : List JavaType) → HaveRows w rows info.supers → slice_get info.supers k ≡ Some d
         → ((g : ℕ) (xs : List JavaType) → d ≡ ty.Class g xs → args ≡ xs) → ((g : ℕ) (xs : List JavaType) → d ≡ ty.Class g xs → (a : Above) → slice_get rows g ≡ Some a → more ≡ a.bases)
-        → ((u : JavaType) → IsPutOf args more u ↔ IsBase w d u) × AreParameterized more
+        → ((u : JavaType) → IsPutOf args more u ↔ IsBase w d u) × AreBelow more (length w.types)
     bases_of_super rows k d args more have there read read' =
         let sup = super_is k d there in
         let row = row_at rows k d have there in
@@ -221,36 +224,26 @@ module _ (w : World) (sound : AreSupers w) where
           subst (λ d. (u : JavaType) → IsPutOf args more u ↔ IsBase w d u) (sym sup.1.3)
               (subst (λ xs. (u : JavaType) → IsPutOf xs more u ↔ IsBase w (ty.Class sup.1.0 sup.1.1) u) (sym same_args)
               (subst (λ bs. (u : JavaType) → IsPutOf sup.1.1 bs u ↔ IsBase w (ty.Class sup.1.0 sup.1.1) u) (sym same_more) put)),
-          λ j t at. ((row.2.bases t).0 (j, subst (λ bs. slice_get bs j ≡ Some t) same_more at)).0,
+          λ j t at.
+              let base = (row.2.bases t).0 (j, subst (λ bs. slice_get bs j ≡ Some t) same_more at) in
+              (base.0.0, base.0.1, base_below sup.1.2.params sup.1.0 (variables 0 sup.1.2.params) t base.0.0 (own_over w sup.1.0 sup.1.2 sup.1.4) base.0.1 base.1),
         )
 
     pub raw_of_super : (rows : List Above) (k : ℕ) (d : JavaType) (more : List JavaType) → slice_get info.supers k ≡ Some d
         → ((g : ℕ) (xs : List JavaType) (i : TypeInfo) → d ≡ ty.Class g xs → slice_get w.types g ≡ Some i → AreBases w (ty.Class g []) more)
-        → ((u : JavaType) → IsPutOf [] more u ↔ IsBase w (erased d) u) × AreParameterized more
+        → ((u : JavaType) → IsPutOf [] more u ↔ IsBase w (erased d) u) × AreBelow more (length w.types)
     raw_of_super rows k d more there read =
         let sup = super_is k d there in
         let list = read sup.1.0 sup.1.1 sup.1.2 sup.1.3 sup.1.4 in
         let put = raw_bases w sound sup.1.0 sup.1.2 more sup.1.4 list in (
           subst (λ s. (u : JavaType) → IsPutOf [] more u ↔ IsBase w s u) (sym (ap erased sup.1.3 ∙ erased_class sup.1.0 sup.1.1)) put,
-          λ j t at. ((list t).0 (j, at)).0,
+          λ j t at. let base = (list t).0 (j, at) in (base.0.0, base.0.1, base_below 0 sup.1.0 [] t base.0.0 (bare_over w 0 sup.1.0 sup.1.2 sup.1.4) base.0.1 base.1),
         )
 
     -- the list to begin with: the class with its own variables, where it has some
 
-    some_variables' : 0 < info.params → variables 0 info.params ≡ [] → ⊥
-    some_variables' some none =
-        let len : length (variables 0 info.params) ≡ info.params = variables_length 0 info.params in
-        let e : length (variables 0 info.params) ≡ 0 = ap length none in
-        omega (arith, len, e, some)
-
     abbrev pub IsOwn : JavaType → Type 0
     IsOwn u = (0 < info.params) × (u ≡ with_own c info.params)
-
-    pub own_parameterized : (bases : List JavaType) → ((u : JavaType) → IsListed bases u ↔ IsOwn u) → AreParameterized bases
-    own_parameterized bases told k t there = let is = (told t).0 (k, there) in (c, (variables 0 info.params, is.1, some_variables' is.0))
-
-    pub own_single : (bases : List JavaType) → ((u : JavaType) → IsListed bases u ↔ IsOwn u) → AreSingle bases
-    own_single bases told g t u is_t is_u in_t in_u = ((told t).0 in_t).1 ∙ sym ((told u).0 in_u).1
 
     pub own_start : (bases : List JavaType) (P : JavaType → JavaType → Type 0) → ((u : JavaType) → IsListed bases u ↔ IsOwn u)
         → (u : JavaType) → IsListed bases u ↔ (IsOwn u ⊎ AmongFirst (λ d. P d u) info.supers 0)

@@ -12,6 +12,8 @@ pub mod Decides
 pub mod Steps
 pub mod Words
 pub mod Merges
+pub mod Places
+pub mod Climbs
 pub mod Collected
 pub mod Searches
 pub mod Transports

@@ -1,14 +1,12 @@
 -- Lists of parameterized types that grow, with one of each class.
-use Rattle.std.proofs.Common.{◌≡◌, ℕ, ◌+◌, ◌<◌, ◌≤◌, zero, suc, List, [], ◌∷◌, ◌++◌, Some, Result, Ok, Err, Bool, map, ◌⊎◌, ◌↔◌, inl, inr, refl, sym, ap, ◌∙◌, subst, length, arith}
-use Rattle.std.specs.Prelude.{slice_get, slice_index_or as get_or, IfOk, IsTrue}
-use Rattle.java_tree.specs.declared.fault.NoMemory.{NoMemory}
+use Rattle.std.proofs.Common.{◌≡◌, ℕ, ◌+◌, ◌<◌, ◌≤◌, zero, suc, List, [], ◌∷◌, ◌++◌, Some, map, ◌⊎◌, ◌↔◌, inl, inr, refl, sym, ap, ◌∙◌, subst, length, arith}
+use Rattle.std.specs.Prelude.{slice_get, slice_index_or as get_or}
 use Rattle.std.proofs.lemmas.Option.{slice_get_read, slice_get_within}
 use Rattle.class_world.specs.declared.world.JavaType.{JavaType}
 use Rattle.class_world.specs.declared.world.JavaType.TheVariants as ty
 use Rattle.class_world.specs.Types.{substitute}
 use Rattle.class_world.specs.Subtypes.{Parameterizes}
-use Rattle.class_world.specs.Merged.{IsListed, AreParameterized, AreSingle, Gains, GainsPut, Clash, ClashOne}
-use Rattle.class_world.proofs.Forms.{same_class}
+use Rattle.class_world.specs.Merged.{IsListed, Gains, GainsPut, Clash}
 use Rattle.class_world.proofs.Substs.{put_class, none_left}
 
 -- the last of a list
@@ -27,6 +25,12 @@ first_or_last [] x y (suc k) e = absurd (cc e)
 first_or_last (z ∷ zs) x y zero e = inl e
 first_or_last (z ∷ zs) x y (suc k) e = first_or_last zs x y k e
 
+pub first_or_end : {A : Type 0} (xs : List A) (x y : A) (k : ℕ) → slice_get (xs ++ x ∷ []) k ≡ Some y → (slice_get xs k ≡ Some y) ⊎ ((y ≡ x) × (k ≡ length xs))
+first_or_end [] x y zero e = let h : x ≡ y = cc e in inr (sym h, refl)
+first_or_end [] x y (suc k) e = absurd (cc e)
+first_or_end (z ∷ zs) x y zero e = inl e
+first_or_end (z ∷ zs) x y (suc k) e = elim (first_or_end zs x y k e) [ inl h ↦ inl h | inr h ↦ inr (h.0, ap suc h.1) ]
+
 pub pushed : (old new : List JavaType) (t : JavaType) → new ≡ old ++ t ∷ [] → Gains old new t
 pushed old new t made u = (
   λ h. elim (first_or_last old t u h.0 (ap (λ xs. slice_get xs h.0) (sym made) ∙ h.1)) [ inl was ↦ inl (h.0, was) | inr last ↦ inr last ],
@@ -38,29 +42,6 @@ pushed old new t made u = (
 
 pub there_already : (old : List JavaType) (t : JavaType) → IsListed old t → Gains old old t
 there_already old t is u = (λ h. inl h, λ h. elim h [ inl was ↦ was | inr e ↦ subst (IsListed old) (sym e) is ])
-
--- the parameterization of g that is added is the first of its class
-pub pushed_single : (old new : List JavaType) (g : ℕ) (t : JavaType) → new ≡ old ++ t ∷ [] → Parameterizes g t
-    → ((k : ℕ) (b : JavaType) → slice_get old k ≡ Some b → (args : List JavaType) → b ≡ ty.Class g args → ⊥) → AreSingle old → AreSingle new
-pushed_single old new g t made is none single h a b is_a is_b in_a in_b = elim ((pushed old new t made a).0 in_a) [
-  | inl was_a ↦ elim ((pushed old new t made b).0 in_b) [
-    | inl was_b ↦ single h a b is_a is_b was_a was_b
-    | inr last_b ↦ absurd (none was_a.0 a was_a.1 is_a.0 (is_a.1 ∙ ap (λ h. ty.Class h is_a.0) (same_class h g _ _ (sym is_b.1 ∙ last_b ∙ is.1)).0))
-  ]
-  | inr last_a ↦ elim ((pushed old new t made b).0 in_b) [
-    | inl was_b ↦ absurd (none was_b.0 b was_b.1 is_b.0 (is_b.1 ∙ ap (λ h. ty.Class h is_b.0) (same_class h g _ _ (sym is_a.1 ∙ last_a ∙ is.1)).0))
-    | inr last_b ↦ last_a ∙ sym last_b
-  ]
-]
-
--- one of a class that is listed parameterizes it
-pub listed_one : (old : List JavaType) (g k : ℕ) (b : JavaType) → AreParameterized old → slice_get old k ≡ Some b → ((args : List JavaType) × (b ≡ ty.Class g args)) → Parameterizes g b
-listed_one old g k b all at shape =
-    let is = all k b at in
-    subst (λ g. Parameterizes g b) (same_class is.0 g is.1.0 shape.0 (sym is.1.1 ∙ shape.1)).0 is.1
-
-pub gains_parameterized : (old new : List JavaType) (t : JavaType) (g : ℕ) → Gains old new t → Parameterizes g t → AreParameterized old → AreParameterized new
-gains_parameterized old new t g gains is all k b at = elim ((gains b).0 (k, at)) [ inl was ↦ all was.0 b was.1 | inr last ↦ (g, subst (Parameterizes g) (sym last) is) ]
 
 -- the types that were and the first i others with the arguments put
 abbrev pub GainsFirst : List JavaType → List JavaType → List JavaType → List JavaType → ℕ → Type 0
@@ -121,11 +102,6 @@ clash_next old now args more i b before at h = (
   inr (i, b, at, refl),
   h.5,
 )
-
-pub clash_one : (old : List JavaType) (g : ℕ) (t s : JavaType) (r : Result Bool NoMemory) → Parameterizes g t → t ≡ s
-    → IfOk r (λ r. (IsTrue r → ⊥) → (u : JavaType) × Parameterizes g u × IsListed old u × (u ≡ t → ⊥)) → IfOk r (λ r. (IsTrue r → ⊥) → ClashOne old s)
-clash_one old g t s (Ok r) is e h = λ not. let k = h not in (g, k.0, subst (Parameterizes g) e is, k.1, k.2, λ i. k.3 (i ∙ sym e))
-clash_one old g t s (Err x) is e h = tt
 
 -- a type that parameterizes a class does so with the arguments put
 pub put_parameterized : (args : List JavaType) (g : ℕ) (b : JavaType) → Parameterizes g b → Parameterizes g (substitute args b)

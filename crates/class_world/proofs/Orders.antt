@@ -9,7 +9,7 @@ use Rattle.class_world.specs.declared.world.JavaType.{JavaType}
 use Rattle.class_world.specs.declared.world.JavaType.TheVariants as ty
 use Rattle.class_world.specs.Types.{object_type, substitute, erased, with_own, IsReference, of_class, of_variable, of_array, AreReferences, IsTypeOver, a_primitive, the_null, a_class, a_variable, an_array}
 use Rattle.class_world.specs.Subtypes.{Subtype, same, through, declared, object, raw, null, arrays, char_int, int_long, IsDeclaredSuper}
-use Rattle.class_world.specs.Sound.{AreSupers}
+use Rattle.class_world.specs.Sound.{AreSupers, HaveClassSupers, IsClassOver}
 use Rattle.class_world.proofs.Forms.{primitive_kind, null_kind, class_kind, variable_kind, array_kind, same_primitive, same_element, same_class, primitive_refers_not, null_refers_not}
 use Rattle.std.proofs.lemmas.Option.{slice_get_within}
 use Rattle.class_world.proofs.Substs as sub
@@ -124,21 +124,30 @@ widens_on prim.Boolean prim.Int r h k = absurd (cc h)
 widens_on prim.Boolean prim.Char r h k = absurd (cc h)
 widens_on prim.Boolean prim.Long r h k = absurd (cc h)
 
+-- supertypes that are not raw are class types
+pub class_supers : (w : World) → AreSupers w → HaveClassSupers w
+class_supers w sound = record { top = sound.top; supers = λ c info d at h. let sup = sound.supers c info d at h in (sup.0, (sup.1.0, sup.1.1, sup.1.3)) }
+
+-- a declared supertype is a class type over the same variables
+pub declared_over : (w : World) (sups : HaveClassSupers w) (n c : ℕ) (xs : List JavaType) (t : JavaType) → IsTypeOver w n (ty.Class c xs) → IsDeclaredSuper w c xs t → IsClassOver w n t
+declared_over w sups n c xs t over h =
+    let parts = class_parts w n (ty.Class c xs) c xs over refl in
+    let sup = sups.supers c h.0 h.2 h.1 (h.0, h.1, h.3, h.4) in
+    elim h.5 [
+      | inl plain ↦
+          let shape : t ≡ ty.Class sup.1.0 (map (substitute xs) sup.1.1) = plain.1 ∙ ap (substitute xs) sup.1.2 ∙ put_class xs sup.1.0 sup.1.1 in
+          (subst (IsTypeOver w n) (sym plain.1) (put_over w h.0.params n xs h.2 plain.0 parts.3 parts.4 sup.0), (sup.1.0, _, shape))
+      | inr bare ↦
+          let shape : t ≡ ty.Class sup.1.0 [] = bare.2 ∙ ap erased sup.1.2 ∙ erased_class sup.1.0 sup.1.1 in
+          let class = class_parts w h.0.params h.2 sup.1.0 sup.1.1 sup.0 sup.1.2 in
+          (subst (IsTypeOver w n) (sym shape) (bare_over w n sup.1.0 class.0 class.1), (sup.1.0, [], shape))
+    ]
+
 module _ (w : World) (sound : AreSupers w) where
   -- a declared supertype is a class type over the same variables
   pub declared_above : (n c : ℕ) (xs : List JavaType) (t : JavaType) → IsTypeOver w n (ty.Class c xs) → IsDeclaredSuper w c xs t
       → ((g : ℕ) × (ys : List JavaType) × (t ≡ ty.Class g ys)) × IsTypeOver w n t
-  declared_above n c xs t over h =
-      let parts = class_parts w n (ty.Class c xs) c xs over refl in
-      let sup = sound.supers c h.0 h.2 h.1 (h.0, h.1, h.3, h.4) in
-      elim h.5 [
-        | inl plain ↦
-            let shape : t ≡ ty.Class sup.1.0 (map (substitute xs) sup.1.1) = plain.1 ∙ ap (substitute xs) sup.1.3 ∙ put_class xs sup.1.0 sup.1.1 in
-            ((sup.1.0, _, shape), subst (IsTypeOver w n) (sym plain.1) (put_over w h.0.params n xs h.2 plain.0 parts.3 parts.4 sup.0))
-        | inr bare ↦
-            let shape : t ≡ ty.Class sup.1.0 [] = bare.2 ∙ ap erased sup.1.3 ∙ erased_class sup.1.0 sup.1.1 in
-            ((sup.1.0, [], shape), subst (IsTypeOver w n) (sym shape) (bare_over w n sup.1.0 sup.1.2 sup.1.4))
-      ]
+  declared_above n c xs t over h = let up = declared_over w (class_supers w sound) n c xs t over h in (up.1, up.0)
 
   -- what is above a class type over some variables is a class type over them
   pub class_above : (n : ℕ) (s t : JavaType) → Subtype w s t → (c : ℕ) (xs : List JavaType) → s ≡ ty.Class c xs → IsTypeOver w n s

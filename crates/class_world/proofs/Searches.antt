@@ -13,7 +13,7 @@ use Rattle.class_world.proofs.Forms.{same_class}
 use Rattle.class_world.proofs.Substs.{there_is}
 use Rattle.class_world.proofs.Lifts.{bare_declared}
 use Rattle.class_world.proofs.Words.{set_here, set_there, same_or_other, length_set}
-use Rattle.class_world.proofs.Merges.{at_last, at_first}
+use Rattle.class_world.proofs.Merges.{at_last, at_first, first_or_end}
 
 -- how many are not yet seen
 abbrev pub unseen : List Bool → ℕ
@@ -27,12 +27,6 @@ one_seen (true ∷ bs) zero e = absurd (cc e)
 one_seen (false ∷ bs) zero e = refl
 one_seen (true ∷ bs) (suc i) e = one_seen bs i e
 one_seen (false ∷ bs) (suc i) e = ap (λ n. n + 1) (one_seen bs i e)
-
-pub first_or_end : {A : Type 0} (xs : List A) (x y : A) (k : ℕ) → slice_get (xs ++ x ∷ []) k ≡ Some y → (slice_get xs k ≡ Some y) ⊎ ((y ≡ x) × (k ≡ length xs))
-first_or_end [] x y zero e = let h : x ≡ y = cc e in inr (sym h, refl)
-first_or_end [] x y (suc k) e = absurd (cc e)
-first_or_end (z ∷ zs) x y zero e = inl e
-first_or_end (z ∷ zs) x y (suc k) e = elim (first_or_end zs x y k e) [ inl h ↦ inl h | inr h ↦ inr (h.0, ap suc h.1) ]
 
 true_or_false : (b : Bool) → (b ≡ true) ⊎ (b ≡ false)
 true_or_false true = inl refl

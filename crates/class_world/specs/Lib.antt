@@ -2,6 +2,7 @@ pub mod Types
 pub mod Subtypes
 pub mod Sound
 pub mod Merged
+pub mod Climbs
 pub mod Sorts
 pub mod Ordered
 pub mod Subclasses

@@ -1,5 +1,5 @@
 -- What the pieces say from which the table of the order is built.
-use Rattle.std.specs.Prelude.{◌≡◌, ℕ, ◌<◌, ◌≤◌, ◌/◌, Bool, true, false, List, [], Some, slice_get, length, ◌↔◌, ◌⊎◌}
+use Rattle.std.specs.Prelude.{◌≡◌, ℕ, ◌<◌, ◌≤◌, ◌/◌, Bool, true, false, List, [], ◌∷◌, ◌++◌, Some, slice_get, length, ◌↔◌, ◌⊎◌}
 use Rattle.class_world.specs.declared.world.World.{World}
 use Rattle.class_world.specs.declared.world.TypeInfo.{TypeInfo}
 use Rattle.class_world.specs.declared.world.Above.{Above}
@@ -13,8 +13,9 @@ use Rattle.class_world.specs.Sound.{IsSet, IsRow}
 abbrev pub IsListed : List JavaType → JavaType → Type 0
 IsListed ts t = (k : ℕ) × (slice_get ts k ≡ Some t)
 
-abbrev pub AreParameterized : List JavaType → Type 0
-AreParameterized ts = (k : ℕ) (t : JavaType) → slice_get ts k ≡ Some t → (g : ℕ) × Parameterizes g t
+-- each listed type parameterizes one of the first n classes
+abbrev pub AreBelow : List JavaType → ℕ → Type 0
+AreBelow ts n = (k : ℕ) (t : JavaType) → slice_get ts k ≡ Some t → (g : ℕ) × Parameterizes g t × (g < n)
 
 -- no two parameterizations of one class are listed
 abbrev pub AreSingle : List JavaType → Type 0
@@ -31,6 +32,24 @@ IsPutOf args ts u = (k : ℕ) × (b : JavaType) × (slice_get ts k ≡ Some b) �
 -- the listed types are those that were and others with the arguments put
 abbrev pub GainsPut : List JavaType → List JavaType → List JavaType → List JavaType → Type 0
 GainsPut old new args more = (u : JavaType) → IsListed new u ↔ (IsListed old u ⊎ IsPutOf args more u)
+
+-- t is listed; or it has no arguments, and a type of its class is listed
+abbrev pub IsCovered : List JavaType → JavaType → Type 0
+IsCovered ts t = (g : ℕ) × (xs : List JavaType) × (ys : List JavaType) × (t ≡ ty.Class g xs) × IsListed ts (ty.Class g ys) × ((xs ≡ []) ⊎ (xs ≡ ys))
+
+-- the type is at its class's place in the list
+abbrev pub IsPlaced : List JavaType → List ℕ → ℕ → JavaType → Type 0
+IsPlaced ts places g t = (p : ℕ) × (xs : List JavaType) × (slice_get places g ≡ Some p) × (slice_get ts p ≡ Some t) × (t ≡ ty.Class g xs)
+
+-- A list of class types that has of each class at most two, first the one without arguments, and the places by class where the last of each is. Of a class
+-- of which none is listed the place may be any number.
+pub record HasPlaces (ts : List JavaType) (places : List ℕ) : Type 0 where
+  pub last : (k g : ℕ) (xs : List JavaType) → slice_get ts k ≡ Some (ty.Class g xs) → (ys : List JavaType) × IsPlaced ts places g (ty.Class g ys) × ((xs ≡ []) ⊎ (xs ≡ ys))
+  pub twice : (j k g : ℕ) (xs ys : List JavaType) → j < k → slice_get ts j ≡ Some (ty.Class g xs) → slice_get ts k ≡ Some (ty.Class g ys) → (xs ≡ []) × (ys ≡ [] → ⊥)
+
+-- the list covers t, or t comes last in it
+abbrev pub Takes : List JavaType → List JavaType → JavaType → Type 0
+Takes old new t = ((new ≡ old) × IsCovered old t) ⊎ (new ≡ old ++ t ∷ [])
 
 -- t parameterizes a class of which another parameterization is listed
 abbrev pub ClashOne : List JavaType → JavaType → Type 0

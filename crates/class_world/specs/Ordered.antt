@@ -1,5 +1,5 @@
 -- What the building of the table answers.
-use Rattle.std.specs.Prelude.{◌≡◌, ℕ, ◌<◌, List, Some, slice_get, length}
+use Rattle.std.specs.Prelude.{◌≡◌, ℕ, ◌<◌, List, Option, None, Some, slice_get, length}
 use Rattle.class_world.specs.declared.world.Above.{Above}
 use Rattle.class_world.specs.declared.world.World.{World}
 use Rattle.class_world.specs.declared.world.TypeInfo.{TypeInfo}
@@ -19,6 +19,11 @@ SameBut w v = (v.types ≡ w.types) × (v.methods ≡ w.methods) × (v.fields �
 -- the class with its own variables is below two parameterizations of one class
 abbrev pub IsClassBelowTwo : World → ℕ → Type 0
 IsClassBelowTwo w c = (info : TypeInfo) × (slice_get w.types c ≡ Some info) × (g : ℕ) × IsBelowTwo w (with_own c info.params) g
+
+-- the first such class, by number
+abbrev pub IsFirstBelowTwo : World → Option ℕ → Type 0
+IsFirstBelowTwo w None = (c : ℕ) → IsClassBelowTwo w c → ⊥
+IsFirstBelowTwo w (Some c) = IsClassBelowTwo w c × ((d : ℕ) → d < c → IsClassBelowTwo w d → ⊥)
 
 abbrev pub IsOrdered : World → Ordered → Type 0
 IsOrdered w (answer.Sound v) = IsSound v × SameBut w v

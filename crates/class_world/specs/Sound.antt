@@ -48,6 +48,16 @@ pub record AreSupers (w : World) : Type 0 where
   pub top : (info : TypeInfo) → slice_get w.types 0 ≡ Some info → (info.params ≡ 0) × (info.supers ≡ [])
   pub supers : (c : ℕ) (info : TypeInfo) (d : JavaType) → slice_get w.types c ≡ Some info → IsDirectSuper w c d → IsSuper w info.params d
 
+-- A declared supertype in a class of n parameters, where it may be raw too: a class type over its variables.
+abbrev pub IsClassOver : World → ℕ → JavaType → Type 0
+IsClassOver w n d = IsTypeOver w n d × ((g : ℕ) × (args : List JavaType) × (d ≡ ty.Class g args))
+
+-- What the types declare, where the order may be broken: Object has no supertype and no parameter, and each declared supertype is a class type over the variables of
+-- its class. It may be raw, a class may be above itself, and one may be below two parameterizations of one class.
+pub record HaveClassSupers (w : World) : Type 0 where
+  pub top : (info : TypeInfo) → slice_get w.types 0 ≡ Some info → (info.params ≡ 0) × (info.supers ≡ [])
+  pub supers : (c : ℕ) (info : TypeInfo) (d : JavaType) → slice_get w.types c ≡ Some info → IsDirectSuper w c d → IsClassOver w info.params d
+
 -- no class with its own variables is below two parameterizations of one class (8.1.5)
 abbrev pub IsSingle : World → ℕ → ℕ → Type 0
 IsSingle w c n = (g : ℕ) (t u : JavaType) → Parameterizes g t → Parameterizes g u → Subtype w (with_own c n) t → Subtype w (with_own c n) u → t ≡ u

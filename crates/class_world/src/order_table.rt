@@ -65,8 +65,9 @@ fn fill_rows(alloc: Global, w: &World, listed: &[u32]) -> Result<Filled, NoMemor
     ensures { IfOk result (λ r. IsFilled w.now r) }
 {
     let mut rows = empty_rows(alloc, w.types.len())?;
+    let mut places = vec![in alloc; 0usize; w.types.len()]?;
     for c in listed {
-        if !add_row(alloc, w, &mut rows, *c)? {
+        if !add_row(alloc, w, &mut rows, places.as_mut_slice(), *c)? {
             return Ok(Filled::BelowTwo(*c));
         }
     }
@@ -88,8 +89,15 @@ fn empty_rows(alloc: Global, count: usize) -> Result<Vec<Above>, NoMemory>
 }
 
 /// Writes the row of a class; `false` where it is below two parameterizations of one class.
-fn add_row(alloc: Global, w: &World, rows: &mut Vec<Above>, c: u32) -> Result<bool, NoMemory>
+fn add_row(
+    alloc: Global,
+    w: &World,
+    rows: &mut Vec<Above>,
+    places: &mut [usize],
+    c: u32,
+) -> Result<bool, NoMemory>
     requires supers { AreSupers w.now }
+    requires size { length places.old ≡ length w.now.types }
     requires within { c < length w.now.types }
     requires len { length rows.old.items ≡ length w.now.types }
     requires above { (g : ℕ) (args : List JavaType) → IsDirectSuper w.now c (ty.Class g args) → HasRow w.now rows.old.items g }
@@ -100,7 +108,7 @@ fn add_row(alloc: Global, w: &World, rows: &mut Vec<Above>, c: u32) -> Result<bo
 {
     match w.types.get(c as usize) {
         None => Ok(true),
-        Some(info) => match row(alloc, w, rows.as_slice(), c, info)? {
+        Some(info) => match row(alloc, w, rows.as_slice(), places, c, info)? {
             None => Ok(false),
             Some(row) => {
                 rows[c as usize] = row;

@@ -4,11 +4,11 @@ ghost use Rattle.std.specs.Prelude.{◌≡◌, ℕ, ◌+◌, ◌<◌, ◌/◌, L
 ghost use Rattle.class_world.specs.Types.{variables, with_own};
 ghost use Rattle.class_world.specs.Subtypes.{IsBelowTwo, Subtype};
 ghost use Rattle.class_world.specs.Sound.{AreBases, AreSupers, IsRow, IsSet, IsSingle};
-ghost use Rattle.class_world.specs.Merged.{HasRow, HaveRows, IsListed};
+ghost use Rattle.class_world.specs.Merged.{HasPlaces, HasRow, HaveRows, IsListed};
 ghost use Rattle.class_world.specs.declared.world.JavaType.TheVariants as ty;
 
 use crate::subtypes::is_raw;
-use crate::table::{add_all, args_of, class_of, set, set_all};
+use crate::table::{add_all, args_of, class_of, listed, set, set_all};
 use crate::world::{Above, JavaType, TypeInfo, World};
 use java_tree::{Items, NoMemory};
 use std::alloc::Global;
@@ -18,20 +18,22 @@ pub(crate) fn row(
     alloc: Global,
     w: &World,
     rows: &[Above],
+    places: &mut [usize],
     c: u32,
     info: &TypeInfo,
 ) -> Result<Option<Above>, NoMemory>
     requires supers { AreSupers w.now }
+    requires size { length places.old ≡ length w.now.types }
     requires known { slice_get w.now.types c ≡ Some info.now }
     requires rows { HaveRows w.now rows.now info.now.supers }
     ensures row { IfOk result (λ o. IfSome o (λ a. IsRow w.now c info.now.params a)) }
     ensures single { IfOk result (λ o. IfSome o (λ a. IsSingle w.now c info.now.params)) }
     ensures none { IfOk result (λ o. IfNone o ((g : ℕ) × IsBelowTwo w.now (with_own c info.now.params) g)) }
 {
-    let Some(bases) = bases_above(alloc, w, rows, c, info)? else {
+    let Some(bases) = bases_above(alloc, w, rows, places, c, info)? else {
         return Ok(None);
     };
-    let Some(raw_bases) = raw_bases_above(alloc, w, rows, c, info)? else {
+    let Some(raw_bases) = raw_bases_above(alloc, w, rows, places, c, info)? else {
         return Ok(None);
     };
     let mut types = vec![in alloc; 0u64; w.types.len() / 64 + 1]?;
@@ -98,19 +100,22 @@ fn bases_above(
     alloc: Global,
     w: &World,
     rows: &[Above],
+    places: &mut [usize],
     c: u32,
     info: &TypeInfo,
 ) -> Result<Option<Vec<JavaType>>, NoMemory>
     requires supers { AreSupers w.now }
+    requires size { length places.old ≡ length w.now.types }
     requires known { slice_get w.now.types c ≡ Some info.now }
     requires rows { HaveRows w.now rows.now info.now.supers }
     ensures bases { IfOk result (λ o. IfSome o (λ v. AreBases w.now (with_own c info.now.params) v.items)) }
     ensures single { IfOk result (λ o. IfSome o (λ v. IsSingle w.now c info.now.params)) }
     ensures none { IfOk result (λ o. IfNone o ((g : ℕ) × IsBelowTwo w.now (with_own c info.now.params) g)) }
 {
-    let mut bases = own_base(alloc, c, info.params)?;
+    let mut bases = own_base(alloc, places, c, info.params)?;
     for d in info.supers.as_slice() {
-        if !add_all(alloc, &mut bases, args_of(d), bases_of(rows, class_of(d)))? {
+        let more = bases_of(rows, class_of(d));
+        if !add_all(alloc, &mut bases, places, args_of(d), more)? {
             return Ok(None);
         }
     }
@@ -122,10 +127,12 @@ fn raw_bases_above(
     alloc: Global,
     w: &World,
     rows: &[Above],
+    places: &mut [usize],
     c: u32,
     info: &TypeInfo,
 ) -> Result<Option<Vec<JavaType>>, NoMemory>
     requires supers { AreSupers w.now }
+    requires size { length places.old ≡ length w.now.types }
     requires known { slice_get w.now.types c ≡ Some info.now }
     requires rows { HaveRows w.now rows.now info.now.supers }
     ensures bases { IfOk result (λ o. IfSome o (λ v. 0 < info.now.params → AreBases w.now (ty.Class c []) v.items)) }
@@ -136,7 +143,8 @@ fn raw_bases_above(
         return Ok(Some(bases));
     }
     for d in info.supers.as_slice() {
-        if !add_all(alloc, &mut bases, &[], bare_bases_of(w, rows, class_of(d)))? {
+        let more = bare_bases_of(w, rows, class_of(d));
+        if !add_all(alloc, &mut bases, places, &[], more)? {
             return Ok(None);
         }
     }
@@ -144,17 +152,24 @@ fn raw_bases_above(
 }
 
 /// A class with its own variables, where it has some.
-fn own_base(alloc: Global, c: u32, params: u32) -> Result<Vec<JavaType>, NoMemory>
-    ensures { IfOk result (λ v. (u : JavaType) → IsListed v.items u ↔ ((0 < params) × (u ≡ with_own c params))) }
+fn own_base(
+    alloc: Global,
+    places: &mut [usize],
+    c: u32,
+    params: u32,
+) -> Result<Vec<JavaType>, NoMemory>
+    requires { c < length places.old }
+    ensures own { IfOk result (λ v. (u : JavaType) → IsListed v.items u ↔ ((0 < params) × (u ≡ with_own c params))) }
+    ensures placed { IfOk result (λ v. HasPlaces v.items places.new) }
 {
-    let mut bases = Vec::new(alloc);
-    if 0 < params {
-        bases.push(JavaType::Class(c, own_variables(alloc, params)?))?;
+    if params == 0 {
+        return Ok(Vec::new(alloc));
     }
-    Ok(bases)
+    let own = JavaType::Class(c, own_variables(alloc, params)?);
+    listed(alloc, places, own)
 }
 
-fn own_variables(alloc: Global, params: u32) -> Result<Items<JavaType>, NoMemory>
+pub(crate) fn own_variables(alloc: Global, params: u32) -> Result<Items<JavaType>, NoMemory>
     ensures { IfOk result (λ vs. vs ≡ variables 0 params) }
 {
     let mut vs = Items::new(alloc);

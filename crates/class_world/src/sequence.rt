@@ -91,7 +91,7 @@ fn first_unfinished(w: &World, finished: &[bool], c: u32) -> Option<u32>
     None
 }
 
-fn supers_of(w: &World, c: u32) -> &[JavaType]
+pub(crate) fn supers_of(w: &World, c: u32) -> &[JavaType]
     ensures { (d : JavaType) → ((k : ℕ) × (slice_get result.now k ≡ Some d)) ↔ IsDirectSuper w.now c d }
 {
     match w.types.get(c as usize) {

@@ -1,9 +1,7 @@
 //! The table of what is above each class.
 
-ghost use Rattle.std.specs.Prelude.{◌≡◌, ℕ, ◌<◌, ◌/◌, List, length, IsTrue, IfOk};
-ghost use Rattle.class_world.specs.Types.{substitute};
-ghost use Rattle.class_world.specs.Subtypes.{Parameterizes};
-ghost use Rattle.class_world.specs.Merged.{AreParameterized, AreSingle, AreWithin, Clash, ClashOne, Gains, GainsPut, IsListed, Sets, SetsAll};
+ghost use Rattle.std.specs.Prelude.{◌≡◌, ℕ, ◌<◌, ◌/◌, List, [], ◌∷◌, length, IsTrue, IfOk, IfSome, IfNone};
+ghost use Rattle.class_world.specs.Merged.{AreBelow, AreWithin, Clash, ClashOne, GainsPut, HasPlaces, IsPlaced, Sets, SetsAll, Takes};
 ghost use Rattle.class_world.specs.declared.world.JavaType.TheVariants as ty;
 
 use crate::subtypes::is_of_class;
@@ -35,23 +33,6 @@ pub(crate) fn set_all(words: &mut [u64], more: &[u64])
     }
 }
 
-/// Adds a parameterization of the class `g`, if it isn't there. `false` where another one is.
-fn add(bases: &mut Vec<JavaType>, g: u32, t: JavaType) -> Result<bool, NoMemory>
-    requires class { Parameterizes g t }
-    requires listed { AreParameterized bases.old.items }
-    ensures gains { IfOk result (λ r. IsTrue r → Gains bases.old.items bases.new.items t) }
-    ensures single { IfOk result (λ r. IsTrue r → AreSingle bases.old.items → AreSingle bases.new.items) }
-    ensures other { IfOk result (λ r. (IsTrue r → ⊥) → (u : JavaType) × Parameterizes g u × IsListed bases.old.items u × (u ≡ t → ⊥)) }
-{
-    for base in bases.as_slice() {
-        if is_of_class(base, g) {
-            return Ok(is_same(base, &t));
-        }
-    }
-    bases.push(t)?;
-    Ok(true)
-}
-
 /// The number of a type's class; 0 for a type that has none.
 pub(crate) fn class_of(t: &JavaType) -> u32
     ensures { (g : ℕ) (args : List JavaType) → t.now ≡ ty.Class g args → result ≡ g }
@@ -72,38 +53,75 @@ pub(crate) fn args_of(t: &JavaType) -> &[JavaType]
     }
 }
 
-/// Adds a parameterized type with the arguments put, if it isn't there. `false` where another parameterization of its class is.
-fn add_put(
+/// A list of one class type, at its place.
+pub(crate) fn listed(
     alloc: Global,
-    bases: &mut Vec<JavaType>,
-    args: &[JavaType],
-    b: &JavaType,
-) -> Result<bool, NoMemory>
-    requires class { (g : ℕ) × Parameterizes g b.now }
-    requires listed { AreParameterized bases.old.items }
-    ensures gains { IfOk result (λ r. IsTrue r → Gains bases.old.items bases.new.items (substitute args.now b.now)) }
-    ensures single { IfOk result (λ r. IsTrue r → AreSingle bases.old.items → AreSingle bases.new.items) }
-    ensures other { IfOk result (λ r. (IsTrue r → ⊥) → ClashOne bases.old.items (substitute args.now b.now)) }
+    places: &mut [usize],
+    t: JavaType,
+) -> Result<Vec<JavaType>, NoMemory>
+    requires { (g : ℕ) × (xs : List JavaType) × (t ≡ ty.Class g xs) × (g < length places.old) }
+    ensures one { IfOk result (λ v. v.items ≡ t ∷ []) }
+    ensures placed { IfOk result (λ v. HasPlaces v.items places.new) }
 {
-    let t = substituted(alloc, args, b)?;
-    add(bases, class_of(b), t)
+    places[class_of(&t) as usize] = 0;
+    Ok(vec![in alloc; t]?)
+}
+
+/// The listed type at the place of the class `g`.
+fn placed<'a>(types: &'a [JavaType], places: &[usize], g: u32) -> Option<&'a JavaType>
+    ensures some { IfSome result (λ t. IsPlaced types.now places.now g t.now) }
+    ensures none { IfNone result ((t : JavaType) → IsPlaced types.now places.now g t → ⊥) }
+{
+    let t = types.get(*places.get(g as usize)?)?;
+    if is_of_class(t, g) { Some(t) } else { None }
+}
+
+/// Adds a class type, if the list doesn't cover it. `false` where another parameterization of its class is listed.
+pub(crate) fn add(
+    types: &mut Vec<JavaType>,
+    places: &mut [usize],
+    t: JavaType,
+) -> Result<bool, NoMemory>
+    requires class { (g : ℕ) × (xs : List JavaType) × (t ≡ ty.Class g xs) × (g < length places.old) }
+    requires placed { HasPlaces types.old.items places.old }
+    ensures takes { IfOk result (λ r. IsTrue r → Takes types.old.items types.new.items t) }
+    ensures placed { IfOk result (λ r. IsTrue r → HasPlaces types.new.items places.new) }
+    ensures other { IfOk result (λ r. (IsTrue r → ⊥) → ClashOne types.old.items t) }
+{
+    let g = class_of(&t);
+    match placed(types.as_slice(), places, g) {
+        None => {}
+        Some(other) => {
+            if args_of(&t).is_empty() || is_same(other, &t) {
+                return Ok(true);
+            }
+            if !args_of(other).is_empty() {
+                return Ok(false);
+            }
+        }
+    }
+    places[g as usize] = types.len();
+    types.push(t)?;
+    Ok(true)
 }
 
 /// Adds parameterized types with the arguments put, those that aren't there. `false` where two parameterizations of one class come together.
 pub(crate) fn add_all(
     alloc: Global,
     bases: &mut Vec<JavaType>,
+    places: &mut [usize],
     args: &[JavaType],
     more: &[JavaType],
 ) -> Result<bool, NoMemory>
-    requires listed { AreParameterized bases.old.items }
-    requires more { AreParameterized more.now }
+    requires placed { HasPlaces bases.old.items places.old }
+    requires more { AreBelow more.now (length places.old) }
+    ensures placed { IfOk result (λ r. IsTrue r → HasPlaces bases.new.items places.new) }
     ensures gains { IfOk result (λ r. IsTrue r → GainsPut bases.old.items bases.new.items args.now more.now) }
-    ensures single { IfOk result (λ r. IsTrue r → AreSingle bases.old.items → AreSingle bases.new.items) }
     ensures clash { IfOk result (λ r. (IsTrue r → ⊥) → Clash bases.old.items args.now more.now) }
 {
     for b in more {
-        if !add_put(alloc, bases, args, b)? {
+        let t = substituted(alloc, args, b)?;
+        if !add(bases, places, t)? {
             return Ok(false);
         }
     }

@@ -1,15 +1,20 @@
 -- Tests, and what they decide.
-use Rattle.std.proofs.Common.{◌≡◌, ℕ, Bool, true, false, not, List, [], ◌∷◌, map, Option, Some, None, refl, sym, ap, ◌∙◌, subst}
-use Rattle.std.specs.Prelude.{◌≢◌, Contains, Decides, codes, slice_get}
+use Rattle.std.proofs.Common.{◌≡◌, ℕ, ◌<◌, ◌⊎◌, Bool, true, false, not, List, [], ◌∷◌, map, Option, Some, None, refl, sym, ap, ◌∙◌, subst}
+use Rattle.std.specs.Prelude.{◌≢◌, Contains, Decides, codes, slice_get, nat_eq, nat_lt}
 use Rattle.std.specs.List.{list_any}
 use Rattle.std.specs.Str.{bytes_eq}
-use Rattle.std.proofs.lemmas.Bool.Decides.{Decides-and, Decides-or, Decides-not, Decides-like, Decides-by_or}
+use Rattle.std.proofs.lemmas.Bool.Decides.{Decides-and, Decides-or, Decides-not, Decides-like, Decides-by_or, Decides-eqb, Decides-ltb}
 use Rattle.std.proofs.lemmas.List.Elements.{Decides-contains}
 use Rattle.std.proofs.lemmas.Slice.Eq.{bytes_eq-Decides}
+use Rattle.java_tree.specs.declared.tree.Name.{Name}
+use Rattle.java_tree.specs.declared.tree.Head.{Head}
+use Rattle.java_tree.specs.declared.tree.Head.TheVariants as head
 use Rattle.java_tree.specs.declared.tree.Mod.{Mod}
 use Rattle.java_tree.specs.declared.tree.Mod.TheVariants as mods
 use Rattle.java_tree.specs.Plain as t
-use Rattle.decl_rules.specs.PlainRules.{is_signed_literal, left_out_names, IsLeftOut}
+use Rattle.decl_rules.specs.Parts.{head_of, dims_of}
+use Rattle.decl_rules.specs.PlainRules.{NamesGeneric, is_signed_literal, left_out_names, IsLeftOut}
+use Rattle.decl_rules.specs.Walk.{names_generic, is_nested}
 use Rattle.decl_rules.specs.Looks as spec
 
 pub nil_mapped : {A B : Type 0} (f : A → B) (xs : List A) → spec.is_nil (map f xs) ≡ spec.is_nil xs
@@ -41,6 +46,34 @@ same_decides _ _ = (λ e. absurd (cc e), λ e. absurd (cc e))
 
 pub has_decides : (m : Mod) (xs : List Mod) → Decides (spec.has m xs) (Contains xs m)
 has_decides m xs = Decides-contains xs m (spec.has m xs) (Decides-by_or (λ x. spec.same x m) (λ x. x ≡ m) (spec.has m) (λ x. same_decides x m) refl (λ _ _. refl) xs)
+
+pub name_decides : (a b : Name) → Decides (nat_eq a.0 b.0) (a ≡ b)
+name_decides a b = Decides-like (nat_eq a.0 b.0) (λ e. ap made e) (λ e. ap (λ (x : Name). x.0) e) (Decides-eqb a.0 b.0)
+  where
+    made : ℕ → Name
+    made k = record { 0 = k }
+
+-- ---- S12
+
+vars_decide : (n : Name) (vars : List Name) → Decides (list_any (λ v. nat_eq v.0 n.0) vars) (Contains vars n)
+vars_decide n vars =
+    Decides-contains vars n (list_any (λ v. nat_eq v.0 n.0) vars)
+    (Decides-by_or (λ v. nat_eq v.0 n.0) (λ v. v ≡ n) (list_any (λ v. nat_eq v.0 n.0)) (λ v. name_decides v n) refl (λ _ _. refl) vars)
+
+generic_decides : (generic : Name → Bool) (vars : List Name) (h : Head) → Decides (names_generic generic vars h) (NamesGeneric generic vars h)
+generic_decides generic vars (head.Prim p) = (λ e. absurd (cc e), λ f. absurd (let e = f.1 in cc e))
+generic_decides generic vars (head.Path []) = (λ e. absurd (cc e), λ f. absurd (let e = f.1 in cc e))
+generic_decides generic vars (head.Path (n ∷ m ∷ names)) = (λ e. absurd (cc e), λ f. absurd (let e = f.1 in cc e))
+generic_decides generic vars (head.Path (n ∷ [])) =
+    Decides-like _ (λ h. (n, refl, h.0, h.1)) (λ h. from h.0 h.1 h.2 h.3)
+    (Decides-and (not (list_any (λ v. nat_eq v.0 n.0) vars)) (generic n) (Decides-not _ (vars_decide n vars)) (truth (generic n)))
+  where
+    from : (m : Name) → head.Path (n ∷ []) ≡ head.Path (m ∷ []) → (Contains vars m → ⊥) → generic m ≡ true → (Contains vars n → ⊥) × (generic n ≡ true)
+    from m e free is = subst (λ (x : Name). (Contains vars x → ⊥) × (generic x ≡ true)) (cc e) (free, is)
+
+pub nested_decides : (generic : Name → Bool) (vars : List Name) (x : t.TypeExpr) → Decides (is_nested generic vars x) ((0 < dims_of x) ⊎ NamesGeneric generic vars (head_of x))
+nested_decides generic vars x =
+    Decides-or (nat_lt 0 (dims_of x)) (names_generic generic vars (head_of x)) (Decides-ltb 0 (dims_of x)) (generic_decides generic vars (head_of x))
 
 -- ---- S16
 

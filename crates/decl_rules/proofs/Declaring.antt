@@ -1,7 +1,7 @@
 -- The looks at declarations find the first of what breaks a DR rule.
 use Rattle.std.proofs.Common.{◌≡◌, ℕ, ◌⊎◌, inl, inr, Bool, true, false, not, ◌&&◌, List, [], ◌∷◌, map, Option, Some, None, slice_get, refl, sym, ap, subst}
 use Rattle.std.specs.Prelude.{◌≢◌, Contains, Decides, is_some, is_none, nat_eq, if◌then◌else◌}
-use Rattle.std.proofs.lemmas.Bool.Decides.{Decides-and, Decides-or, Decides-not, Decides-like, Decides-eqb}
+use Rattle.std.proofs.lemmas.Bool.Decides.{Decides-and, Decides-or, Decides-not, Decides-like}
 use Rattle.java_tree.specs.declared.tree.Name.{Name}
 use Rattle.java_tree.specs.declared.tree.Mod.{Mod}
 use Rattle.java_tree.specs.declared.tree.Mod.TheVariants as mods
@@ -16,7 +16,7 @@ use Rattle.decl_rules.specs.Looks as look
 use Rattle.decl_rules.specs.DeclaredLooks as spec
 use Rattle.rule_order.proofs.Adding.{adds_nothing, adds_both, adds_alike, adds_noted, first_from_none}
 use Rattle.rule_order.proofs.Lists.{in_none, in_first, in_rest, in_cases, some_none, some_more}
-use Rattle.decl_rules.proofs.Deciding.{truth, falsity, has_decides}
+use Rattle.decl_rules.proofs.Deciding.{truth, falsity, name_decides, has_decides}
 use Rattle.decl_rules.proofs.Repeating.{repeats_add, repeats_decide}
 
 -- ---- modifiers
@@ -108,12 +108,6 @@ body_decides d m =
     (Decides-and (not m.constructor) (look.has mods.Abstract m.mods) (falsity m.constructor) (has_decides mods.Abstract m.mods)) (has_decides mods.Abstract d.mods)
 
 -- ---- names
-
-name_decides : (a b : Name) → Decides (nat_eq a.0 b.0) (a ≡ b)
-name_decides a b = Decides-like (nat_eq a.0 b.0) (λ e. ap made e) (λ e. ap (λ (x : Name). x.0) e) (Decides-eqb a.0 b.0)
-  where
-    made : ℕ → Name
-    made k = record { 0 = k }
 
 misnamed_decides : (d : t.TypeDecl) (m : t.MethodDecl) → Decides (m.constructor && not (nat_eq m.name.0 d.name.0)) ((m.constructor ≡ true) × (m.name ≢ d.name))
 misnamed_decides d m = Decides-and m.constructor _ (truth m.constructor) (Decides-not (nat_eq m.name.0 d.name.0) (name_decides m.name d.name))

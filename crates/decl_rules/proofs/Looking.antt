@@ -2,21 +2,20 @@
 use Rattle.std.proofs.Common.{◌≡◌, ℕ, Bool, true, false, not, ◌&&◌, ◌||◌, List, [], ◌∷◌, Option, Some, None, refl}
 use Rattle.std.specs.Prelude.{◌≢◌, Contains, Decides, if◌then◌else◌}
 use Rattle.std.proofs.lemmas.Bool.Decides.{Decides-and, Decides-or}
+use Rattle.java_tree.specs.declared.tree.Name.{Name}
 use Rattle.java_tree.specs.declared.tree.Mod.{Mod}
 use Rattle.java_tree.specs.declared.tree.Mod.TheVariants as mods
 use Rattle.java_tree.specs.Plain as t
-use Rattle.java_tree.specs.Children as c
 use Rattle.rule_order.specs.declared.Breach.{Breach}
 use Rattle.rule_order.specs.First.{Breaches, Either, IsFirst}
 use Rattle.rule_order.specs.Noted.{At, SomeOf}
-use Rattle.decl_rules.specs.PlainRules.{TypeBreaks, SetsStatic, IsProtected, TakesName, MemberBreaks, BreaksPlain, IsStatic, is_signed_literal}
+use Rattle.decl_rules.specs.PlainRules.{TypeBreaks, SetsStatic, IsProtected, TakesName, MemberBreaks, WrittenBreaks, BreaksPlain, IsStatic, is_signed_literal}
 use Rattle.rule_order.specs.Noted.{Adds, noted}
 use Rattle.decl_rules.specs.Walk as walk
 use Rattle.decl_rules.specs.Looks as spec
 use Rattle.rule_order.proofs.Adding.{adds_nothing, adds_both, adds_noted, first_from_none}
 use Rattle.rule_order.proofs.Lists.{some_none, some_more}
-use Rattle.decl_rules.proofs.Inside.{In}
-use Rattle.decl_rules.proofs.Walking.{file_on}
+use Rattle.decl_rules.proofs.Walking.{file_adds}
 use Rattle.decl_rules.proofs.Deciding.{truth, falsity, some_decides, has_decides, set_decides, takes_decides}
 
 -- the variables of a field that is static if S holds
@@ -83,9 +82,10 @@ plain_types_add user names (d ∷ ds) a =
     some_more (PlainOf user names) d ds a i (spec.plain_types user names ds i) (plain_type_adds user names d a) (plain_types_add user names ds i)
 
 -- the walk, and then the looks
-pub plain_first : (u : t.SourceUnit) (user : Bool) (names : List (List ℕ)) → IsFirst (BreaksPlain u user names) (spec.plain_types user names u.types (walk.decls u.types None))
-plain_first u user names =
-    let i = walk.decls u.types None in
+pub plain_first : (u : t.SourceUnit) (user : Bool) (names : List (List ℕ)) (generic : Name → Bool)
+    → IsFirst (BreaksPlain u user names generic) (spec.plain_types user names u.types (walk.decls generic u.types None))
+plain_first u user names generic =
+    let i = walk.decls generic u.types None in
     let r = spec.plain_types user names u.types i in
-    first_from_none (BreaksPlain u user names) r
-    (adds_both (In (c.File u)) (SomeOf u.types (PlainOf user names)) None i r (file_on u None).is (plain_types_add user names u.types i))
+    first_from_none (BreaksPlain u user names generic) r
+    (adds_both (WrittenBreaks u generic) (SomeOf u.types (PlainOf user names)) None i r (file_adds generic u None) (plain_types_add user names u.types i))

@@ -1,4 +1,5 @@
 pub mod Parts
+pub mod Generic
 pub mod PlainRules
 pub mod DeclaredRules
 pub mod Walk

@@ -1,5 +1,6 @@
--- The S rules on what a file writes, which no name of a type decides.
+-- The S rules on what a file writes, by what it writes and by which names mean generic types in it.
 use Rattle.std.specs.Prelude.{◌≡◌, ◌≢◌, ◌<◌, ◌⊎◌, ℕ, Bool, true, false, List, [], ◌∷◌, Some, Contains, slice_get, codes}
+use Rattle.java_tree.specs.declared.tree.Name.{Name}
 use Rattle.java_tree.specs.declared.tree.Head.{Head}
 use Rattle.java_tree.specs.declared.tree.Head.TheVariants as head
 use Rattle.java_tree.specs.declared.tree.Mod.TheVariants as mods
@@ -41,6 +42,21 @@ IsElement _ ty = ⊥
 -- S17: an array's element type has type arguments.
 abbrev pub HasGenericElements : Item → Breaches
 HasGenericElements y b = (ty : TypeExpr) × IsElement y ty × At 17 (node_of ty) (args_of ty ≢ t.NoTypes) b
+
+-- The head is the simple name of a generic type, by the names that mean generic types in the file. A type parameter of the type around shadows a name (JLS 6.3.1).
+abbrev pub NamesGeneric : (generic : Name → Bool) → (vars : List Name) → Head → Type 0
+NamesGeneric generic vars h = (n : Name) × (h ≡ head.Path (n ∷ [])) × (Contains vars n → ⊥) × (generic n ≡ true)
+
+-- S12: an argument of a written type (JLS 4.5) is an array type or of a generic type.
+abbrev pub Nests : (generic : Name → Bool) → (vars : List Name) → Item → Breaches
+Nests generic vars (c.TypeExpr x) b =
+    (y : TypeExpr) × Contains (c.types (args_of x)) (c.TypeExpr y) × At 12 (node_of y) ((0 < dims_of y) ⊎ NamesGeneric generic vars (head_of y)) b
+Nests generic vars _ b = ⊥
+
+-- S13 and S17 within a file, and S12 within each type that it declares
+abbrev pub WrittenBreaks : SourceUnit → (generic : Name → Bool) → Breaches
+WrittenBreaks u generic =
+    Either (SomeWithin (c.File u) (λ y. Either (NamesQualified y) (HasGenericElements y))) (SomeOf u.types (λ d. SomeWithin (c.Decl d) (Nests generic d.params)))
 
 -- ---- types and members
 
@@ -90,8 +106,7 @@ TakesName names (t.AMethod m) = At 19 m.node ((m.constructor ≡ false) × ((tex
 abbrev pub MemberBreaks : (user : Bool) → (names : List (List ℕ)) → TypeDecl → Member → Breaches
 MemberBreaks user names d m = Either (SetsStatic d m) (Either (IsProtected user m) (TakesName names m))
 
--- S10, S13, S16, S17, S18 and S19, in a user's file or one of a library
-abbrev pub BreaksPlain : SourceUnit → (user : Bool) → (names : List (List ℕ)) → Breaches
-BreaksPlain u user names =
-    Either (SomeWithin (c.File u) (λ y. Either (NamesQualified y) (HasGenericElements y)))
-    (SomeOf u.types (λ d. Either (TypeBreaks user d) (SomeOf d.members (MemberBreaks user names d))))
+-- S10, S12, S13, S16, S17, S18 and S19, in a user's file or one of a library
+abbrev pub BreaksPlain : SourceUnit → (user : Bool) → (names : List (List ℕ)) → (generic : Name → Bool) → Breaches
+BreaksPlain u user names generic =
+    Either (WrittenBreaks u generic) (SomeOf u.types (λ d. Either (TypeBreaks user d) (SomeOf d.members (MemberBreaks user names d))))

@@ -1,10 +1,11 @@
-//! The walk over the written types in expressions (S13, S17).
+//! The walk over the written types in expressions (S12, S13, S17).
 
 ghost use Rattle.std.specs.Prelude.{◌≡◌};
 ghost use Rattle.std.specs.Option.{option_map};
 ghost use Rattle.java_tree.specs.View.{plain, plains, maybe};
 ghost use Rattle.decl_rules.specs.Walk as spec;
 
+use crate::generics::Generics;
 use crate::types::{walk_element, walk_type};
 use java_tree::tree::{Expr, ExprForm};
 use java_tree::{Boxed, Items};
@@ -13,8 +14,8 @@ use rule_order::Breach;
 /// An expression and all that is in it.
 #[cycle(exprs)]
 #[tactic(auto, using(tree_numbers::proofs::Forms::plain_call))]
-pub(crate) fn walk_expr(e: &Expr, first: Option<Breach>) -> Option<Breach>
-    ensures { result ≡ spec.expr (plain e.now) first }
+pub(crate) fn walk_expr(generics: &Generics<'_>, e: &Expr, first: Option<Breach>) -> Option<Breach>
+    ensures { result ≡ spec.expr (spec.test_of generics.now) (plain e.now) first }
 {
     match &e.form {
         ExprForm::Number { .. }
@@ -25,75 +26,83 @@ pub(crate) fn walk_expr(e: &Expr, first: Option<Breach>) -> Option<Breach>
         | ExprForm::This
         | ExprForm::Name(_)
         | ExprForm::SuperField(_) => first,
-        ExprForm::Field { of, .. } => walk_expr(of.get(), first),
+        ExprForm::Field { of, .. } => walk_expr(generics, of.get(), first),
         ExprForm::Index { of, at } => {
-            let first = walk_expr(of.get(), first);
-            walk_expr(at.get(), first)
+            let first = walk_expr(generics, of.get(), first);
+            walk_expr(generics, at.get(), first)
         }
         ExprForm::Call { of, args, .. } => {
-            let first = walk_maybe(of, first);
-            walk_exprs(args, first)
+            let first = walk_maybe(generics, of, first);
+            walk_exprs(generics, args, first)
         }
-        ExprForm::SuperMethod { args, .. } => walk_exprs(args, first),
+        ExprForm::SuperMethod { args, .. } => walk_exprs(generics, args, first),
         ExprForm::New { ty, args } => {
-            let first = walk_type(ty, first);
-            walk_exprs(args, first)
+            let first = walk_type(generics, ty, first);
+            walk_exprs(generics, args, first)
         }
         ExprForm::NewArray { ty, sizes, .. } => {
             let first = walk_element(true, ty, first);
-            let first = walk_type(ty, first);
-            walk_exprs(sizes, first)
+            let first = walk_type(generics, ty, first);
+            walk_exprs(generics, sizes, first)
         }
         ExprForm::NewFilled { ty, items } => {
-            let first = walk_type(ty, first);
-            walk_expr(items.get(), first)
+            let first = walk_type(generics, ty, first);
+            walk_expr(generics, items.get(), first)
         }
-        ExprForm::Items(items) => walk_exprs(items, first),
-        ExprForm::Paren(of) => walk_expr(of.get(), first),
-        ExprForm::Unary { of, .. } => walk_expr(of.get(), first),
-        ExprForm::Step { of, .. } => walk_expr(of.get(), first),
+        ExprForm::Items(items) => walk_exprs(generics, items, first),
+        ExprForm::Paren(of) => walk_expr(generics, of.get(), first),
+        ExprForm::Unary { of, .. } => walk_expr(generics, of.get(), first),
+        ExprForm::Step { of, .. } => walk_expr(generics, of.get(), first),
         ExprForm::Cast { ty, of, .. } => {
-            let first = walk_type(ty, first);
-            walk_expr(of.get(), first)
+            let first = walk_type(generics, ty, first);
+            walk_expr(generics, of.get(), first)
         }
         ExprForm::Binary { left, right, .. } => {
-            let first = walk_expr(left.get(), first);
-            walk_expr(right.get(), first)
+            let first = walk_expr(generics, left.get(), first);
+            walk_expr(generics, right.get(), first)
         }
         ExprForm::InstanceOf { of, ty } => {
-            let first = walk_expr(of.get(), first);
-            walk_type(ty, first)
+            let first = walk_expr(generics, of.get(), first);
+            walk_type(generics, ty, first)
         }
         ExprForm::Cond { test, yes, no } => {
-            let first = walk_expr(test.get(), first);
-            let first = walk_expr(yes.get(), first);
-            walk_expr(no.get(), first)
+            let first = walk_expr(generics, test.get(), first);
+            let first = walk_expr(generics, yes.get(), first);
+            walk_expr(generics, no.get(), first)
         }
         ExprForm::Assign { to, from, .. } => {
-            let first = walk_expr(to.get(), first);
-            walk_expr(from.get(), first)
+            let first = walk_expr(generics, to.get(), first);
+            walk_expr(generics, from.get(), first)
         }
     }
 }
 
 /// The target of a call, if it has one.
 #[cycle(exprs)]
-fn walk_maybe(e: &Option<Boxed<Expr>>, first: Option<Breach>) -> Option<Breach>
-    ensures { result ≡ spec.maybe (maybe (option_map plain e.now)) first }
+fn walk_maybe(
+    generics: &Generics<'_>,
+    e: &Option<Boxed<Expr>>,
+    first: Option<Breach>,
+) -> Option<Breach>
+    ensures { result ≡ spec.maybe (spec.test_of generics.now) (maybe (option_map plain e.now)) first }
 {
     match e {
         None => first,
-        Some(e) => walk_expr(e.get(), first),
+        Some(e) => walk_expr(generics, e.get(), first),
     }
 }
 
 /// Each of a list.
 #[cycle(exprs)]
-pub(crate) fn walk_exprs(es: &Items<Expr>, mut first: Option<Breach>) -> Option<Breach>
-    ensures { result ≡ spec.exprs (plains es.now) first }
+pub(crate) fn walk_exprs(
+    generics: &Generics<'_>,
+    es: &Items<Expr>,
+    mut first: Option<Breach>,
+) -> Option<Breach>
+    ensures { result ≡ spec.exprs (spec.test_of generics.now) (plains es.now) first }
 {
     for e in es.as_slice() {
-        first = walk_expr(e, first);
+        first = walk_expr(generics, e, first);
     }
     first
 }

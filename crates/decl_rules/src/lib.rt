@@ -4,6 +4,7 @@
 mod counting;
 mod declared;
 mod exprs;
+mod generics;
 mod members;
 mod modifiers;
 mod plain;
@@ -16,4 +17,5 @@ mod vars;
 
 pub use counting::{Counts, count};
 pub use declared::first_declared;
+pub use generics::GenericNames;
 pub use plain::first_plain;

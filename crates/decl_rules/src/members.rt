@@ -1,10 +1,12 @@
-//! The walk over the written types of a file (S13, S17).
+//! The walk over the written types of a file (S12, S13, S17).
 
 ghost use Rattle.std.specs.Prelude.{◌≡◌, map};
 ghost use Rattle.std.specs.Option.{option_map};
 ghost use Rattle.java_tree.specs.View.{stmt_plain, member_plain, decl_plain};
+ghost use Rattle.decl_rules.specs.Generic.{is_generic};
 ghost use Rattle.decl_rules.specs.Walk as spec;
 
+use crate::generics::{GenericNames, Generics};
 use crate::stmts::walk_stmt;
 use crate::types::{walk_maybe_type, walk_types};
 use crate::vars::{walk_declared, walk_params};
@@ -13,20 +15,20 @@ use java_tree::tree::{Member, Stmt, TypeDecl};
 use rule_order::Breach;
 
 // The body of a method, if it has one.
-fn walk_body(x: &Option<Stmt>, first: Option<Breach>) -> Option<Breach>
-    ensures { result ≡ spec.body (option_map stmt_plain x.now) first }
+fn walk_body(generics: &Generics<'_>, x: &Option<Stmt>, first: Option<Breach>) -> Option<Breach>
+    ensures { result ≡ spec.body (spec.test_of generics.now) (option_map stmt_plain x.now) first }
 {
     match x {
         None => first,
-        Some(x) => walk_stmt(x, first),
+        Some(x) => walk_stmt(generics, x, first),
     }
 }
 
-fn walk_member(m: &Member, first: Option<Breach>) -> Option<Breach>
-    ensures { result ≡ spec.member (member_plain m.now) first }
+fn walk_member(generics: &Generics<'_>, m: &Member, first: Option<Breach>) -> Option<Breach>
+    ensures { result ≡ spec.member (spec.test_of generics.now) (member_plain m.now) first }
 {
     match m {
-        Member::Field { ty, vars, .. } => walk_declared(ty, vars, first),
+        Member::Field { ty, vars, .. } => walk_declared(generics, ty, vars, first),
         Member::Method {
             result: ty,
             params,
@@ -34,37 +36,47 @@ fn walk_member(m: &Member, first: Option<Breach>) -> Option<Breach>
             body,
             ..
         } => {
-            let first = walk_maybe_type(ty, first);
-            let first = walk_params(params, first);
-            let first = walk_types(throws, first);
-            walk_body(body, first)
+            let first = walk_maybe_type(generics, ty, first);
+            let first = walk_params(generics, params, first);
+            let first = walk_types(generics, throws, first);
+            walk_body(generics, body, first)
         }
     }
 }
 
-fn walk_members(members: &Items<Member>, mut first: Option<Breach>) -> Option<Breach>
-    ensures { result ≡ spec.members (map member_plain members.now) first }
+fn walk_members(
+    generics: &Generics<'_>,
+    members: &Items<Member>,
+    mut first: Option<Breach>,
+) -> Option<Breach>
+    ensures { result ≡ spec.members (spec.test_of generics.now) (map member_plain members.now) first }
 {
     for m in members.as_slice() {
-        first = walk_member(m, first);
+        first = walk_member(generics, m, first);
     }
     first
 }
 
-fn walk_decl(d: &TypeDecl, first: Option<Breach>) -> Option<Breach>
-    ensures { result ≡ spec.decl (decl_plain d.now) first }
+fn walk_decl(names: &GenericNames, d: &TypeDecl, first: Option<Breach>) -> Option<Breach>
+    ensures { result ≡ spec.decl (is_generic names.now) (decl_plain d.now) first }
 {
-    let first = walk_types(&d.extends, first);
-    let first = walk_types(&d.implements, first);
-    walk_members(&d.members, first)
+    let vars = d.params.as_slice();
+    let generics = &Generics { names, vars };
+    let first = walk_types(generics, &d.extends, first);
+    let first = walk_types(generics, &d.implements, first);
+    walk_members(generics, &d.members, first)
 }
 
 /// The types that a file declares, each with all that is in it.
-pub(crate) fn walk_decls(types: &Items<TypeDecl>, mut first: Option<Breach>) -> Option<Breach>
-    ensures { result ≡ spec.decls (map decl_plain types.now) first }
+pub(crate) fn walk_decls(
+    names: &GenericNames,
+    types: &Items<TypeDecl>,
+    mut first: Option<Breach>,
+) -> Option<Breach>
+    ensures { result ≡ spec.decls (is_generic names.now) (map decl_plain types.now) first }
 {
     for d in types.as_slice() {
-        first = walk_decl(d, first);
+        first = walk_decl(names, d, first);
     }
     first
 }

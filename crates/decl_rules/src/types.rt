@@ -1,4 +1,4 @@
-//! The walk over written types, and over what declares variables with them (S13, S17).
+//! The walk over written types, and over what declares variables with them (S12, S13, S17).
 
 ghost use Rattle.std.specs.Prelude.{◌≡◌, map};
 ghost use Rattle.std.specs.Option.{option_map};
@@ -6,6 +6,7 @@ ghost use Rattle.java_tree.specs.View as view;
 ghost use Rattle.java_tree.specs.View.{type_plain, var_plain};
 ghost use Rattle.decl_rules.specs.Walk as spec;
 
+use crate::generics::Generics;
 use java_tree::Items;
 use java_tree::tree::{Head, TypeExpr, Var};
 use rule_order::{Breach, noted};
@@ -34,34 +35,67 @@ pub(crate) fn walk_element(is: bool, x: &TypeExpr, first: Option<Breach>) -> Opt
     noted(first, 17, x.node, is && has_args(x))
 }
 
+// The first broken rule so far, where some of these arguments may be arrays or generic types.
+fn note_nested(
+    generics: &Generics<'_>,
+    args: &Items<TypeExpr>,
+    mut first: Option<Breach>,
+) -> Option<Breach>
+    ensures { result ≡ spec.nested (spec.test_of generics.now) (view.types (map type_plain args.now)) first }
+{
+    for x in args.as_slice() {
+        first = noted(first, 12, x.node, is_nested(generics, x));
+    }
+    first
+}
+
+fn is_nested(generics: &Generics<'_>, x: &TypeExpr) -> bool
+    ensures { result ≡ spec.test_of generics.now (type_plain x.now) }
+{
+    x.dims > 0 || generics.names_generic(&x.head)
+}
+
 /// A type and its arguments.
 #[cycle(types)]
-pub(crate) fn walk_type(x: &TypeExpr, first: Option<Breach>) -> Option<Breach>
-    ensures { result ≡ spec.type (type_plain x.now) first }
+pub(crate) fn walk_type(
+    generics: &Generics<'_>,
+    x: &TypeExpr,
+    first: Option<Breach>,
+) -> Option<Breach>
+    ensures { result ≡ spec.type (spec.test_of generics.now) (type_plain x.now) first }
 {
     let first = noted(first, 13, x.node, is_qualified(&x.head));
     let first = walk_element(x.dims > 0, x, first);
-    walk_types(&x.args, first)
+    let first = note_nested(generics, &x.args, first);
+    walk_types(generics, &x.args, first)
 }
 
 /// Each of a list.
 #[cycle(types)]
-pub(crate) fn walk_types(xs: &Items<TypeExpr>, mut first: Option<Breach>) -> Option<Breach>
-    ensures { result ≡ spec.types (view.types (map type_plain xs.now)) first }
+pub(crate) fn walk_types(
+    generics: &Generics<'_>,
+    xs: &Items<TypeExpr>,
+    mut first: Option<Breach>,
+) -> Option<Breach>
+    ensures { result ≡ spec.types (spec.test_of generics.now) (view.types (map type_plain xs.now)) first }
 {
     for x in xs.as_slice() {
-        first = walk_type(x, first);
+        first = walk_type(generics, x, first);
     }
     first
 }
 
 /// A type, if there is one.
-pub(crate) fn walk_maybe_type(x: &Option<TypeExpr>, first: Option<Breach>) -> Option<Breach>
-    ensures { result ≡ spec.maybe_type (option_map type_plain x.now) first }
+pub(crate) fn walk_maybe_type(
+    generics: &Generics<'_>,
+    x: &Option<TypeExpr>,
+    first: Option<Breach>,
+) -> Option<Breach>
+    ensures { result ≡ spec.maybe_type (spec.test_of generics.now) (option_map type_plain x.now) first }
 {
     match x {
         None => first,
-        Some(x) => walk_type(x, first),
+        Some(x) => walk_type(generics, x, first),
     }
 }
 

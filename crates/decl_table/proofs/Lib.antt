@@ -6,3 +6,13 @@ pub mod Walks
 pub mod WorldFacts
 pub mod WorldLists
 pub mod SimpleNames
+pub mod Wholes
+pub mod Fitting
+pub mod Bases
+pub mod Listed
+pub mod Supers
+pub mod Orders
+pub mod GenericSeen
+pub mod FileLists
+pub mod Meanings
+pub mod Lows

@@ -3,3 +3,5 @@ pub mod BuiltIns
 pub mod Classes
 pub mod Numbered
 pub mod Written
+pub mod Program
+pub mod Files

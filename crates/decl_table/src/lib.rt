@@ -4,8 +4,12 @@
 mod build;
 mod built_ins;
 mod classes;
+mod declarations;
+mod generics;
+mod limits;
 mod methods;
 mod rules;
+mod scope;
 mod tree;
 mod types;
 mod written;

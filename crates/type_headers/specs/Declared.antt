@@ -1,6 +1,5 @@
 -- The type declarations of a program, and what is known of a type before written types are read.
-use Rattle.std.specs.Prelude.{◌≡◌, ℕ, ◌+◌, List, [], ◌∷◌, ◌++◌, map, length, Some, None}
-use Rattle.java_tree.specs.declared.tree.Name.{Name}
+use Rattle.std.specs.Prelude.{ℕ, ◌+◌, List, [], ◌∷◌, ◌++◌, map, length, Some}
 use Rattle.java_tree.specs.Plain.{TypeExpr, TypeDecl}
 use Rattle.class_world.specs.declared.world.TypeInfo.{TypeInfo}
 use Rattle.type_names.specs.declared.known.JavaNames.{JavaNames}

@@ -1,7 +1,6 @@
--- The tests decide what the rules say.
-use Rattle.std.proofs.Common.{◌≡◌, ◌<◌, ℕ, zero, suc, Bool, true, false, not, ◌⊎◌, inl, inr, [], ◌∷◌, Option, Some, None, refl, sym, ap, ◌∙◌, arith}
-use Rattle.std.specs.Prelude.{Decides, nat_lt}
-use Rattle.std.proofs.lemmas.Bool.Decides.{Decides-ltb, Decides-or, nat_tests}
+-- The test decides what the rule says.
+use Rattle.std.proofs.Common.{◌≡◌, ℕ, zero, suc, Bool, true, false, not, ◌⊎◌, inl, inr, [], ◌∷◌, Option, Some, None, refl, sym, ap, ◌∙◌}
+use Rattle.std.specs.Prelude.{Decides}
 use Rattle.java_tree.specs.declared.tree.Name.{Name}
 use Rattle.java_tree.specs.declared.tree.Head.{Head}
 use Rattle.java_tree.specs.declared.tree.Head.TheVariants as head
@@ -9,11 +8,9 @@ use Rattle.java_tree.specs.Plain as t
 use Rattle.java_tree.specs.Plain.{TypeExpr, TypeExprs}
 use Rattle.written_types.specs.Places.{Place}
 use Rattle.written_types.specs.Types.{variable, takes}
-use Rattle.written_types.specs.Breaks.{length_of, NamesType, IsWellNamed, IsIllNamed, IsNested}
-use Rattle.written_types.specs.Walk.{named_by, head_named, well_by, is_ill_named, has_params, generic_by, is_nested}
+use Rattle.written_types.specs.Breaks.{length_of, IsWellNamed, IsIllNamed}
+use Rattle.written_types.specs.Walk.{named_by, head_named, well_by, is_ill_named}
 use Rattle.written_types.proofs.Places.{eq_when, eq_same, variable_is, variable_not, variable_has, variable_none}
-
--- ---- DR1
 
 args_fit : (q : Option ℕ) (xs : TypeExprs) → takes q (length_of xs) ≡ true → (xs ≡ t.NoTypes) ⊎ (q ≡ Some (length_of xs))
 args_fit q t.NoTypes e = inl refl
@@ -62,36 +59,3 @@ ill_decides p (t.Written n h s xs d) = split (well_by p (head_named p h) (length
     split : (b : Bool) → well_by p (head_named p h) (length_of xs) ≡ b → Decides (not b) (IsWellNamed p h xs → ⊥)
     split true is = (λ e. absurd (cc e), λ f. absurd (f (well_when p h xs is)))
     split false is = (λ e. not_well p h xs is, λ f. refl)
-
--- ---- S12
-
-abbrev IsGeneric : Place → Head → Type 0
-IsGeneric p h = (c k : ℕ) × NamesType p h c × (p.params c ≡ Some k) × (0 < k)
-
-params_when : (q : Option ℕ) → has_params q ≡ true → (k : ℕ) × (q ≡ Some k) × (0 < k)
-params_when None e = absurd (cc e)
-params_when (Some k) e = (k, refl, grind (arith, nat_tests, e))
-
-named_generic : (p : Place) (n : Name) (v m : Option ℕ) → variable n p.vars ≡ v → p.mean n ≡ m → generic_by p (named_by v m) ≡ true → IsGeneric p (head.Path (n ∷ []))
-named_generic p n (Some k) m var mean e = absurd (cc e)
-named_generic p n None None var mean e = absurd (cc e)
-named_generic p n None (Some c) var mean e =
-    let has = params_when (p.params c) e in
-    (c, has.0, (n, refl, variable_not n p.vars var, mean), has.1, has.2)
-
-generic_when : (p : Place) (h : Head) → generic_by p (head_named p h) ≡ true → IsGeneric p h
-generic_when p (head.Prim q) e = absurd (cc e)
-generic_when p (head.Path []) e = absurd (cc e)
-generic_when p (head.Path (n ∷ [])) e = named_generic p n (variable n p.vars) (p.mean n) refl refl e
-generic_when p (head.Path (n ∷ m ∷ names)) e = absurd (cc e)
-
-above_zero : (k : ℕ) → 0 < k → nat_lt 0 k ≡ true
-above_zero k lt = grind (arith, nat_tests, lt)
-
-generic_if : (p : Place) (h : Head) → IsGeneric p h → generic_by p (head_named p h) ≡ true
-generic_if p h (c, k, (n, is, out_, mean), has, lt) =
-    ap (λ h. generic_by p (head_named p h)) is ∙ ap (λ v. generic_by p (named_by v (p.mean n))) (variable_none n p.vars out_)
-    ∙ ap (λ m. generic_by p (named_by None m)) mean ∙ ap has_params has ∙ above_zero k lt
-
-pub nested_decides : (p : Place) (x : TypeExpr) → Decides (is_nested p x) (IsNested p x)
-nested_decides p (t.Written n h s xs d) = Decides-or (nat_lt 0 d) (generic_by p (head_named p h)) (Decides-ltb 0 d) (generic_when p h, generic_if p h)

@@ -1,5 +1,6 @@
 pub mod Steps
 pub mod Places
+pub mod Heads
 pub mod Deciding
 pub mod Finding
 pub mod Typing

@@ -1,25 +1,13 @@
 -- Names among the type parameters.
-use Rattle.std.proofs.Common.{◌≡◌, ℕ, zero, suc, ◌+◌, Bool, true, false, cond, List, [], ◌∷◌, ◌⊎◌, inl, inr, Option, Some, None, refl, sym, ap, subst, ◌∙◌, arith, length, get_or}
+use Rattle.std.proofs.Common.{◌≡◌, ℕ, zero, suc, ◌+◌, Bool, true, false, cond, List, [], ◌∷◌, inl, inr, Option, Some, None, refl, sym, ap, subst, ◌∙◌, arith, length, get_or}
 use Rattle.std.specs.Prelude.{Contains, nat_eq}
 use Rattle.std.proofs.lemmas.Bool.Decides.{nat_tests}
 use Rattle.std.specs.List.{position_from}
 use Rattle.java_tree.specs.declared.tree.Name.{Name}
+use Rattle.rule_order.proofs.Lists.{in_none, in_first, in_rest, in_cases}
 use Rattle.written_types.specs.Places.{Place}
 use Rattle.written_types.specs.Types.{variable, takes}
 use Rattle.written_types.specs.Walk.{named_by, path_named}
-
-in_none : {A : Type 0} (y : A) → Contains [] y → ⊥
-in_none y h = omega (arith, h.1)
-
-in_first : {A : Type 0} (x : A) (xs : List A) → Contains (x ∷ xs) x
-in_first x xs = (0, omega arith, refl)
-
-in_rest : {A : Type 0} (x y : A) (xs : List A) → Contains xs y → Contains (x ∷ xs) y
-in_rest x y xs h = (suc h.0, omega (arith, h.1), h.2)
-
-in_cases : {A : Type 0} (x y : A) (xs : List A) → Contains (x ∷ xs) y → (y ≡ x) ⊎ Contains xs y
-in_cases x y xs (zero, h, e) = inl (sym e)
-in_cases x y xs (suc k, h, e) = inr (k, omega (arith, h), e)
 
 pub eq_when : (n m : ℕ) → nat_eq n m ≡ true → n ≡ m
 eq_when n m e = grind (arith, nat_tests, e)

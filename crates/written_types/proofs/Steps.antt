@@ -10,7 +10,6 @@ use Rattle.java_tree.specs.View as view
 use Rattle.java_tree.specs.View.{type_plain}
 use Rattle.class_world.specs.declared.world.JavaType.{JavaType}
 use Rattle.rule_order.specs.declared.Breach.{Breach}
-use Rattle.java_tree.specs.Plain as t
 use Rattle.java_tree.proofs.Views.{type_out}
 use Rattle.written_types.specs.Places.{Place}
 use Rattle.written_types.specs.Types.{arrays, head_type, type_of, types_of, joined}
@@ -34,15 +33,15 @@ place_drop p xs i x lt is = ap (position_from p i) (next_item xs i x lt is)
 
 -- ---- the walk
 
-abbrev pub walked : (t.TypeExpr → Bool) → ℕ → List TypeExpr → Option Breach → Option Breach
-walked test rule xs a = walk.types test rule (view.types (map type_plain xs)) a
+abbrev pub walked : Place → List TypeExpr → Option Breach → Option Breach
+walked p xs a = walk.types p (view.types (map type_plain xs)) a
 
-pub walk_step : (test : t.TypeExpr → Bool) (rule : ℕ) (xs : List TypeExpr) (i : ℕ) (x : TypeExpr) (a r all : Option Breach) → i < length xs → x ≡ get_or xs i x
-    → r ≡ walk.type test rule (type_plain x) a → walked test rule (drop i xs) a ≡ all → walked test rule (drop (i + 1) xs) r ≡ all
-walk_step test rule xs i x a r all lt is here so_far = ap (walked test rule (drop (i + 1) xs)) here ∙ ap (λ l. walked test rule l a) (sym (next_item xs i x lt is)) ∙ so_far
+pub walk_step : (p : Place) (xs : List TypeExpr) (i : ℕ) (x : TypeExpr) (a r all : Option Breach) → i < length xs → x ≡ get_or xs i x
+    → r ≡ walk.type p (type_plain x) a → walked p (drop i xs) a ≡ all → walked p (drop (i + 1) xs) r ≡ all
+walk_step p xs i x a r all lt is here so_far = ap (walked p (drop (i + 1) xs)) here ∙ ap (λ l. walked p l a) (sym (next_item xs i x lt is)) ∙ so_far
 
-pub walk_end : (test : t.TypeExpr → Bool) (rule : ℕ) (xs : List TypeExpr) (i : ℕ) (a all : Option Breach) → length xs ≤ i → walked test rule (drop i xs) a ≡ all → a ≡ all
-walk_end test rule xs i a all past so_far = ap (λ l. walked test rule l a) (sym (none_left xs i past)) ∙ so_far
+pub walk_end : (p : Place) (xs : List TypeExpr) (i : ℕ) (a all : Option Breach) → length xs ≤ i → walked p (drop i xs) a ≡ all → a ≡ all
+walk_end p xs i a all past so_far = ap (λ l. walked p l a) (sym (none_left xs i past)) ∙ so_far
 
 -- ---- the types of a list, with those before
 
@@ -95,8 +94,7 @@ pub type_said : (p : Place) (x : TypeExpr)
     → type_of p (type_plain x) ≡ option_map (arrays (out-TypeExpr x).dims) (option_and_then (head_type p (head_at x)) (read p (args_at x)))
 type_said p x = ap (type_of p) (type_out x)
 
-pub type_walked : (test : t.TypeExpr → Bool) (rule : ℕ) (x : TypeExpr) (a : Option Breach)
-    → walk.type test rule (type_plain x) a ≡ walked test rule (args_at x) (order.noted a rule (out-TypeExpr x).node (test (type_plain x)))
-type_walked test rule x a =
-    ap (λ y. walk.type test rule y a) (type_out x)
-    ∙ ap (λ y. walked test rule (args_at x) (order.noted a rule (out-TypeExpr x).node (test y))) (sym (type_out x))
+pub type_walked : (p : Place) (x : TypeExpr) (a : Option Breach)
+    → walk.type p (type_plain x) a ≡ walked p (args_at x) (order.noted a 1 (out-TypeExpr x).node (walk.is_ill_named p (type_plain x)))
+type_walked p x a =
+    ap (λ y. walk.type p y a) (type_out x) ∙ ap (λ y. walked p (args_at x) (order.noted a 1 (out-TypeExpr x).node (walk.is_ill_named p y))) (sym (type_out x))

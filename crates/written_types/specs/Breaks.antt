@@ -1,5 +1,5 @@
--- The rules on written types: DR1, that each names a type, and S12, that an argument is neither an array type nor of a generic type.
-use Rattle.std.specs.Prelude.{◌≡◌, ℕ, zero, suc, ◌<◌, ◌⊎◌, ◌↔◌, [], ◌∷◌, Some, Contains}
+-- The rule on written types: DR1, that each names a type.
+use Rattle.std.specs.Prelude.{◌≡◌, ℕ, zero, suc, ◌⊎◌, ◌↔◌, [], ◌∷◌, Some, Contains}
 use Rattle.java_tree.specs.declared.tree.Node.{Node}
 use Rattle.java_tree.specs.declared.tree.Name.{Name}
 use Rattle.java_tree.specs.declared.tree.Head.{Head}
@@ -31,13 +31,15 @@ pub data IsWithin : TypeExpr → TypeExpr → Type 0 where
 abbrev pub node_of : TypeExpr → Node
 node_of (t.Written n h s xs d) = n
 
+abbrev pub head_of : TypeExpr → Head
+head_of (t.Written n h s xs d) = h
+
+abbrev pub args_of : TypeExpr → TypeExprs
+args_of (t.Written n h s xs d) = xs
+
 abbrev pub length_of : TypeExprs → ℕ
 length_of t.NoTypes = zero
 length_of (t.AndType x xs) = suc (length_of xs)
-
--- the rule is broken at each written type within x that P holds of
-abbrev pub Broken : (rule : ℕ) → (TypeExpr → Type 0) → TypeExpr → Breaches
-Broken rule P x b = (y : TypeExpr) × IsWithin x y × At rule (node_of y) (P y) b
 
 -- ---- DR1
 
@@ -62,18 +64,8 @@ IsIllNamed p (t.Written n h s xs d) = IsWellNamed p h xs → ⊥
 
 -- DR1 at a written type or within it
 abbrev pub IllNamed : Place → TypeExpr → Breaches
-IllNamed p = Broken 1 (IsIllNamed p)
+IllNamed p x b = (y : TypeExpr) × IsWithin x y × At 1 (node_of y) (IsIllNamed p y) b
 
 -- A written type says a type exactly where DR1 is broken nowhere within it.
 abbrev pub IsTypedWhereNamed : Place → TypeExpr → Type 0
 IsTypedWhereNamed p x = ((y : JavaType) × (type_of p x ≡ Some y)) ↔ ((b : Breach) → IllNamed p x b → ⊥)
-
--- ---- S12
-
--- S12 at an argument: it has array levels, or its head names a generic type.
-abbrev pub IsNested : Place → TypeExpr → Type 0
-IsNested p (t.Written n h s xs d) = (0 < d) ⊎ ((c k : ℕ) × NamesType p h c × (p.params c ≡ Some k) × (0 < k))
-
--- S12 at an argument of a written type, or at an argument within one
-abbrev pub Nested : Place → TypeExpr → Breaches
-Nested p x b = (y : TypeExpr) × IsArgument x y × Broken 12 (IsNested p) y b

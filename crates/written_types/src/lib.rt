@@ -1,4 +1,4 @@
-//! What written types say (JLS 3rd edition, 4.3 to 4.5, 4.8 and 6.5.5), and the rules that they break: DR1, where one names no type, and S12, where a type argument is an array type or of a generic type.
+//! What written types say (JLS 3rd edition, 4.3 to 4.5, 4.8 and 6.5.5), and where one names no type (DR1).
 #![tactic(auto)]
 
 mod breaks;
@@ -8,6 +8,6 @@ mod scope;
 #[cfg(test)]
 mod tests;
 
-pub use breaks::{first_ill_named, first_nested};
+pub use breaks::first_ill_named;
 pub use read::read_type;
-pub use scope::Scope;
+pub use scope::{Named, Scope};

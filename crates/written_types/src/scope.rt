@@ -21,7 +21,7 @@ pub struct Scope<'a> {
 
 /// What the head of a written type names: a type parameter by its place, a type by its number.
 #[derive(Clone, Copy)]
-pub(crate) enum Named {
+pub enum Named {
     Primitive(Primitive),
     Variable(usize),
     Type(u32),
@@ -41,7 +41,8 @@ fn place_of(name: Name, vars: &[Name]) -> Option<usize>
 }
 
 impl Scope<'_> {
-    pub(crate) fn head_named(&self, head: &Head) -> Named
+    /// What a head names: a primitive type, a type parameter of the class around, which shadows a type of its name, or the type that a simple name means in the file (JLS 6.3.1, 6.5.5).
+    pub fn head_named(&self, head: &Head) -> Named
         ensures { (p : Place) → IsPlace self.now p → result ≡ spec.head_named p head.now }
     {
         match head {

@@ -3,7 +3,7 @@
 
 ghost use Rattle.std.specs.Prelude.{◌≡◌, ◌≤◌, length, IfOk};
 
-use crate::{Scope, first_ill_named, first_nested, read_type};
+use crate::{Scope, first_ill_named, read_type};
 use class_world::{JavaType, TypeInfo};
 use java_tree::tree::{
     Head, Import, Mod, Name, Node, Primitive, SourceUnit, Span, TypeDecl, TypeExpr,
@@ -190,11 +190,12 @@ fn parts(alloc: Global, ty: &JavaType) -> Result<Vec<u32>, NoMemory> {
     Ok(parts)
 }
 
-fn at(node: u32, rule: u8) -> Option<Breach> {
+// DR1 at this node, or nowhere where it is 0.
+fn at(node: u32) -> Option<Breach> {
     if node == 0 {
         None
     } else {
-        Some(Breach { node, rule })
+        Some(Breach { node, rule: 1 })
     }
 }
 
@@ -211,20 +212,18 @@ fn answers(
     Ok(said.as_slice() == wanted)
 }
 
-// Whether a written type says the type of these parts, or none where there are none, and breaks DR1 and S12 first at these nodes, or nowhere where it is 0.
+// Whether a written type says the type of these parts, or none where there are none, and breaks DR1 first at this node, or nowhere where it is 0.
 fn says(
     alloc: Global,
     scope: &Scope<'_>,
     x: &[(u32, u32, u32, u32)],
     wanted: &[u32],
     ill_named: u32,
-    nested: u32,
 ) -> bool {
     match written(alloc, x) {
         Err(_) => false,
         Ok(x) => {
-            first_ill_named(scope, &x) == at(ill_named, 1)
-                && first_nested(scope, &x) == at(nested, 12)
+            first_ill_named(scope, &x) == at(ill_named)
                 && answers(alloc, scope, &x, wanted).unwrap_or(false)
         }
     }
@@ -245,13 +244,13 @@ fn names_with_and_without_arguments(rt: HostRuntime) -> Result<(), Fail> {
     let p = made(a)?;
     let s = scope(&p, 0, &[Name(E)]);
     // A
-    assert!(rt; says(a, &s, &[(1, A, 0, 0)], &[A], 0, 0));
+    assert!(rt; says(a, &s, &[(1, A, 0, 0)], &[A], 0));
     // L
-    assert!(rt; says(a, &s, &[(1, L, 0, 0)], &[L], 0, 0));
+    assert!(rt; says(a, &s, &[(1, L, 0, 0)], &[L], 0));
     // M
-    assert!(rt; says(a, &s, &[(1, M, 0, 0)], &[M], 0, 0));
+    assert!(rt; says(a, &s, &[(1, M, 0, 0)], &[M], 0));
     // L<A>
-    assert!(rt; says(a, &s, &[(2, A, 0, 0), (1, L, 1, 0)], &[L, A], 0, 0));
+    assert!(rt; says(a, &s, &[(2, A, 0, 0), (1, L, 1, 0)], &[L, A], 0));
     // M<A, L<A>>
     assert!(rt;
         says(
@@ -259,12 +258,11 @@ fn names_with_and_without_arguments(rt: HostRuntime) -> Result<(), Fail> {
             &s,
             &[(2, A, 0, 0), (4, A, 0, 0), (3, L, 1, 0), (1, M, 2, 0)],
             &[M, A, L, A],
-            0,
-            3
+            0
         )
     );
     // String
-    assert!(rt; says(a, &s, &[(1, STRING, 0, 0)], &[STRING], 0, 0));
+    assert!(rt; says(a, &s, &[(1, STRING, 0, 0)], &[STRING], 0));
     Ok(())
 }
 
@@ -274,26 +272,17 @@ fn names_of_no_type(rt: HostRuntime) -> Result<(), Fail> {
     let p = made(a)?;
     let s = scope(&p, 0, &[Name(E)]);
     // M<A>
-    assert!(rt; says(a, &s, &[(2, A, 0, 0), (1, M, 1, 0)], &[], 1, 0));
+    assert!(rt; says(a, &s, &[(2, A, 0, 0), (1, M, 1, 0)], &[], 1));
     // L<A, A>
-    assert!(rt;
-        says(
-            a,
-            &s,
-            &[(2, A, 0, 0), (3, A, 0, 0), (1, L, 2, 0)],
-            &[],
-            1,
-            0
-        )
-    );
+    assert!(rt; says(a, &s, &[(2, A, 0, 0), (3, A, 0, 0), (1, L, 2, 0)], &[], 1));
     // A<A>
-    assert!(rt; says(a, &s, &[(2, A, 0, 0), (1, A, 1, 0)], &[], 1, 0));
+    assert!(rt; says(a, &s, &[(2, A, 0, 0), (1, A, 1, 0)], &[], 1));
     // X
-    assert!(rt; says(a, &s, &[(1, X, 0, 0)], &[], 1, 0));
+    assert!(rt; says(a, &s, &[(1, X, 0, 0)], &[], 1));
     // X[]
-    assert!(rt; says(a, &s, &[(1, X, 0, 1)], &[], 1, 0));
+    assert!(rt; says(a, &s, &[(1, X, 0, 1)], &[], 1));
     // L<X>
-    assert!(rt; says(a, &s, &[(2, X, 0, 0), (1, L, 1, 0)], &[], 2, 0));
+    assert!(rt; says(a, &s, &[(2, X, 0, 0), (1, L, 1, 0)], &[], 2));
     Ok(())
 }
 
@@ -303,11 +292,11 @@ fn arrays_and_primitive_types(rt: HostRuntime) -> Result<(), Fail> {
     let p = made(a)?;
     let s = scope(&p, 0, &[Name(E)]);
     // int
-    assert!(rt; says(a, &s, &[(1, INT_WORD, 0, 0)], &[INT], 0, 0));
+    assert!(rt; says(a, &s, &[(1, INT_WORD, 0, 0)], &[INT], 0));
     // int[]
-    assert!(rt; says(a, &s, &[(1, INT_WORD, 0, 1)], &[ARRAY, INT], 0, 0));
+    assert!(rt; says(a, &s, &[(1, INT_WORD, 0, 1)], &[ARRAY, INT], 0));
     // String[][]
-    assert!(rt; says(a, &s, &[(1, STRING, 0, 2)], &[ARRAY, ARRAY, STRING], 0, 0));
+    assert!(rt; says(a, &s, &[(1, STRING, 0, 2)], &[ARRAY, ARRAY, STRING], 0));
     // L<int[]>
     assert!(rt;
         says(
@@ -315,8 +304,7 @@ fn arrays_and_primitive_types(rt: HostRuntime) -> Result<(), Fail> {
             &s,
             &[(2, INT_WORD, 0, 1), (1, L, 1, 0)],
             &[L, ARRAY, INT],
-            0,
-            2
+            0
         )
     );
     // L<E[]>
@@ -326,8 +314,7 @@ fn arrays_and_primitive_types(rt: HostRuntime) -> Result<(), Fail> {
             &s,
             &[(2, E, 0, 1), (1, L, 1, 0)],
             &[L, ARRAY, VARIABLE],
-            0,
-            2
+            0
         )
     );
     Ok(())
@@ -339,18 +326,9 @@ fn arguments_within_arguments(rt: HostRuntime) -> Result<(), Fail> {
     let p = made(a)?;
     let s = scope(&p, 0, &[Name(E)]);
     // L<L>
-    assert!(rt; says(a, &s, &[(2, L, 0, 0), (1, L, 1, 0)], &[L, L], 0, 2));
+    assert!(rt; says(a, &s, &[(2, L, 0, 0), (1, L, 1, 0)], &[L, L], 0));
     // L<M<A>>
-    assert!(rt;
-        says(
-            a,
-            &s,
-            &[(3, A, 0, 0), (2, M, 1, 0), (1, L, 1, 0)],
-            &[],
-            2,
-            2
-        )
-    );
+    assert!(rt; says(a, &s, &[(3, A, 0, 0), (2, M, 1, 0), (1, L, 1, 0)], &[], 2));
     // L<A<int[]>>
     assert!(rt;
         says(
@@ -358,8 +336,7 @@ fn arguments_within_arguments(rt: HostRuntime) -> Result<(), Fail> {
             &s,
             &[(3, INT_WORD, 0, 1), (2, A, 1, 0), (1, L, 1, 0)],
             &[],
-            2,
-            3
+            2
         )
     );
     // L<L<L<A>>>
@@ -369,8 +346,7 @@ fn arguments_within_arguments(rt: HostRuntime) -> Result<(), Fail> {
             &s,
             &[(4, A, 0, 0), (3, L, 1, 0), (2, L, 1, 0), (1, L, 1, 0)],
             &[L, L, L, A],
-            0,
-            2
+            0
         )
     );
     // M<X, A<A>>
@@ -380,8 +356,7 @@ fn arguments_within_arguments(rt: HostRuntime) -> Result<(), Fail> {
             &s,
             &[(2, X, 0, 0), (4, A, 0, 0), (3, A, 1, 0), (1, M, 2, 0)],
             &[],
-            2,
-            0
+            2
         )
     );
     // M<X, A<A>>, its nodes counted backwards
@@ -391,8 +366,7 @@ fn arguments_within_arguments(rt: HostRuntime) -> Result<(), Fail> {
             &s,
             &[(8, X, 0, 0), (6, A, 0, 0), (7, A, 1, 0), (9, M, 2, 0)],
             &[],
-            7,
-            0
+            7
         )
     );
     Ok(())
@@ -404,13 +378,13 @@ fn type_parameters(rt: HostRuntime) -> Result<(), Fail> {
     let p = made(a)?;
     let s = scope(&p, 0, &[Name(E)]);
     // E
-    assert!(rt; says(a, &s, &[(1, E, 0, 0)], &[VARIABLE], 0, 0));
+    assert!(rt; says(a, &s, &[(1, E, 0, 0)], &[VARIABLE], 0));
     // E<A>
-    assert!(rt; says(a, &s, &[(2, A, 0, 0), (1, E, 1, 0)], &[], 1, 0));
+    assert!(rt; says(a, &s, &[(2, A, 0, 0), (1, E, 1, 0)], &[], 1));
     // L<E>
-    assert!(rt; says(a, &s, &[(2, E, 0, 0), (1, L, 1, 0)], &[L, VARIABLE], 0, 0));
+    assert!(rt; says(a, &s, &[(2, E, 0, 0), (1, L, 1, 0)], &[L, VARIABLE], 0));
     // E[]
-    assert!(rt; says(a, &s, &[(1, E, 0, 1)], &[ARRAY, VARIABLE], 0, 0));
+    assert!(rt; says(a, &s, &[(1, E, 0, 1)], &[ARRAY, VARIABLE], 0));
     Ok(())
 }
 
@@ -420,11 +394,11 @@ fn type_parameters_hide_types(rt: HostRuntime) -> Result<(), Fail> {
     let p = made(a)?;
     let s = scope(&p, 0, &[Name(E), Name(L), Name(A), Name(L)]);
     // A
-    assert!(rt; says(a, &s, &[(1, A, 0, 0)], &[202], 0, 0));
+    assert!(rt; says(a, &s, &[(1, A, 0, 0)], &[202], 0));
     // L
-    assert!(rt; says(a, &s, &[(1, L, 0, 0)], &[201], 0, 0));
+    assert!(rt; says(a, &s, &[(1, L, 0, 0)], &[201], 0));
     // L<A>
-    assert!(rt; says(a, &s, &[(2, A, 0, 0), (1, L, 1, 0)], &[], 1, 0));
+    assert!(rt; says(a, &s, &[(2, A, 0, 0), (1, L, 1, 0)], &[], 1));
     // M<A, L>
     assert!(rt;
         says(
@@ -432,7 +406,6 @@ fn type_parameters_hide_types(rt: HostRuntime) -> Result<(), Fail> {
             &s,
             &[(2, A, 0, 0), (3, L, 0, 0), (1, M, 2, 0)],
             &[M, 202, 201],
-            0,
             0
         )
     );
@@ -445,19 +418,10 @@ fn a_library_file_sees_its_package_and_no_type_of_a_user(rt: HostRuntime) -> Res
     let p = made(a)?;
     let s = scope(&p, 1, &[]);
     // L<String>
-    assert!(rt;
-        says(
-            a,
-            &s,
-            &[(2, STRING, 0, 0), (1, L, 1, 0)],
-            &[L, STRING],
-            0,
-            0
-        )
-    );
+    assert!(rt; says(a, &s, &[(2, STRING, 0, 0), (1, L, 1, 0)], &[L, STRING], 0));
     // A
-    assert!(rt; says(a, &s, &[(1, A, 0, 0)], &[], 1, 0));
+    assert!(rt; says(a, &s, &[(1, A, 0, 0)], &[], 1));
     // E
-    assert!(rt; says(a, &s, &[(1, E, 0, 0)], &[], 1, 0));
+    assert!(rt; says(a, &s, &[(1, E, 0, 0)], &[], 1));
     Ok(())
 }

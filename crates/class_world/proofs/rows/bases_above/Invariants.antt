@@ -1,12 +1,11 @@
 use Rattle.std.proofs.Common.{◌≡◌, ◌<◌, ◌↔◌, ◌⊎◌}
 use Rattle.class_world.specs.declared.world.JavaType.{JavaType}
 use Rattle.class_world.specs.Types.{with_own}
-use Rattle.class_world.specs.Merged.{AmongFirst, AreParameterized, AreSingle, IsBase, IsListed}
+use Rattle.class_world.specs.Merged.{AmongFirst, HasPlaces, IsBase, IsListed}
 use Rattle.class_world.proofs.rows.bases_above.Given as goal
 
 abbrev pub invariant-loop-d : goal.invariant-loop-d
 invariant-loop-d l = record {
-  listed : AreParameterized l.bases.items;
-  single : AreSingle l.bases.items;
+  placed : HasPlaces l.bases.items l.places;
   bases : (u : JavaType) → IsListed l.bases.items u ↔ (((0 < l.info.params) × (u ≡ with_own l.c l.info.params)) ⊎ AmongFirst (λ d. IsBase l.w d u) l.info.supers l.d-index);
 }

@@ -1,46 +1,57 @@
-use Rattle.std.proofs.Common.{◌≡◌, Some, [], ◌∷◌, ◌++◌, length, refl, sym, ◌∙◌, ap, arith}
-use Rattle.std.specs.Prelude.{slice_get}
-use Rattle.std.proofs.lemmas.Option.{slice_get_read, slice_get_within}
-use Rattle.class_world.proofs.Merges.{class_not_yet, pushed, pushed_single, there_already, listed_one}
+use Rattle.std.proofs.Common.{◌<◌, [], ◌∷◌, ◌++◌, inl, refl, sym, ◌∙◌, subst, length}
+use Rattle.std.specs.Prelude.{slice_set}
+use Rattle.class_world.specs.Merged.{HasPlaces, IsCovered, IsPlaced}
+use Rattle.class_world.proofs.Places as by
 use Rattle.class_world.proofs.table.add.Goals as goal
+use Rattle.class_world.proofs.table.add.Goals.{then-is_empty-via-then-is_empty, then-is_empty-via-else-is_empty+then-is_same, in-None, in-Some+else-is_empty+else-is_same+else-not-is_empty}
 
-pub returns-then-is_of_class-clause-gains : goal.returns-then-is_of_class-clause-gains
-returns-then-is_of_class-clause-gains c = λ h.
-    let old = c.args.bases.now.items in
-    let items = c.as_slice-base-items.result.now in
-    let i = c.loop-base.base-index in
-    let at : slice_get items i ≡ Some c.base-item.result = slice_get_read items (length items) i c.base-item.result refl c.loop-base-test.true c.base-item.is in
-    let is = c.is_same.ensures.0 h ∙ c.loop-base.invariant.kept in
-    there_already old c.args.t (i, ap (λ xs. slice_get xs i) (sym c.as_slice-base-items.ensures.value) ∙ at ∙ ap (λ x. Some x) is)
+pub returns-then-is_empty-clause-takes : goal.returns-then-is_empty-clause-takes
+returns-then-is_empty-clause-takes c = λ h.
+    let is = c.requires.class in
+    let old = c.args.types.now.items in
+    let here : IsPlaced old c.args.places.now is.0 c.in-Some.other.now =
+    subst (λ ts. IsPlaced ts c.args.places.now is.0 c.in-Some.other.now) c.as_slice.ensures.value
+    (subst (λ g. IsPlaced c.as_slice.result.now c.args.places.now g c.in-Some.other.now) (c.class_of-g.ensures is.0 is.1 is.2) c.in-Some.ensures.some) in
+    let covered : IsCovered old c.args.t = elim c.then-is_empty.branch [
+      | then-is_empty-via-then-is_empty w ↦
+          by.covered_bare old c.args.places.now is.0 is.1 c.args.t is.2 c.requires.placed c.in-Some.other.now here (sym (c.args_of.ensures is.0 is.1 is.2) ∙ by.empty_yes c.args_of.result.now w.if-is_empty.ensures)
+      | then-is_empty-via-else-is_empty+then-is_same w ↦ by.covered_same old c.args.places.now is.0 is.1 c.args.t is.2 c.requires.placed c.in-Some.other.now here (w.if-is_same.ensures.0 refl)
+    ] in
+    inl (refl, covered)
 
-pub returns-then-is_of_class-clause-other : goal.returns-then-is_of_class-clause-other
-returns-then-is_of_class-clause-other c = λ other.
-    let old = c.args.bases.now.items in
-    let items = c.as_slice-base-items.result.now in
-    let i = c.loop-base.base-index in
-    let at : slice_get items i ≡ Some c.base-item.result = slice_get_read items (length items) i c.base-item.result refl c.loop-base-test.true c.base-item.is in
-    let there : slice_get old i ≡ Some c.base-item.result = ap (λ xs. slice_get xs i) (sym c.as_slice-base-items.ensures.value) ∙ at in (
-      c.base-item.result,
-      listed_one old c.args.g i c.base-item.result c.requires.listed there (c.if-is_of_class.ensures.0 refl),
-      (i, there),
-      λ e. other (c.is_same.ensures.1 (e ∙ sym c.loop-base.invariant.kept)),
-    )
+pub returns-then-not-is_empty-clause-other : goal.returns-then-not-is_empty-clause-other
+returns-then-not-is_empty-clause-other c = λ h.
+    let is = c.requires.class in
+    let old = c.args.types.now.items in
+    let here : IsPlaced old c.args.places.now is.0 c.in-Some.other.now =
+    subst (λ ts. IsPlaced ts c.args.places.now is.0 c.in-Some.other.now) c.as_slice.ensures.value
+    (subst (λ g. IsPlaced c.as_slice.result.now c.args.places.now g c.in-Some.other.now) (c.class_of-g.ensures is.0 is.1 is.2) c.in-Some.ensures.some) in
+    by.other_there old c.args.places.now is.0 is.1 c.args.t is.2 c.requires.placed c.in-Some.other.now here here.1 here.4
+    (λ none. by.empty_no c.args_of-in-Some.result.now c.if-not-is_empty.ensures (c.args_of-in-Some.ensures is.0 here.1 here.4 ∙ none))
+    (λ none. by.empty_no c.args_of.result.now c.if-is_empty.ensures (c.args_of.ensures is.0 is.1 is.2 ∙ none))
+    (λ e. absurd (cc (c.if-is_same.ensures.1 e)))
 
-pub loop-base-preserved : goal.loop-base-preserved
-loop-base-preserved c = record {
-  kept = c.loop-base.invariant.kept;
-  none = class_not_yet c.args.g c.loop-base.base-index c.as_slice-base-items.result.now c.base-item.result c.loop-base.invariant.none c.loop-base-test.true c.base-item.is
-      (λ is. let never = c.if-is_of_class.ensures.1 is in absurd (cc never));
-}
+pub bounds-places-g : goal.bounds-places-g
+bounds-places-g c = let is = c.requires.class in subst (λ g. g < length c.args.places.now) (sym (c.class_of-g.ensures is.0 is.1 is.2)) is.3
 
-pub returns-clause-gains : goal.returns-clause-gains
-returns-clause-gains c = λ h. pushed c.args.bases.now.items c.push.new.self.items c.args.t (c.in_ok-push.ensures.items ∙ ap (λ x. c.args.bases.now.items ++ x ∷ []) c.loop-base.invariant.kept)
-
-pub returns-clause-single : goal.returns-clause-single
-returns-clause-single c = λ h.
-    let old = c.args.bases.now.items in
-    pushed_single old c.push.new.self.items c.args.g c.args.t (c.in_ok-push.ensures.items ∙ ap (λ x. old ++ x ∷ []) c.loop-base.invariant.kept) c.requires.class
-    (λ k b at args e.
-    let there = ap (λ xs. slice_get xs k) c.as_slice-base-items.ensures.value ∙ at in
-    let lt = slice_get_within c.as_slice-base-items.result.now k b there in
-    c.loop-base.invariant.none k b (omega (arith, lt)) there args e)
+pub returns-clause-placed : goal.returns-clause-placed
+returns-clause-placed c = λ h.
+    let is = c.requires.class in
+    let old = c.args.types.now.items in
+    let number = c.class_of-g.ensures is.0 is.1 is.2 in
+    let value = c.as_slice.ensures.value in
+    let made : HasPlaces (old ++ c.args.t ∷ []) (slice_set c.args.places.now is.0 (length old)) = elim c.match-placed.branch [
+      | in-None w ↦
+          by.placed_new old c.args.places.now is.0 is.1 c.args.t is.2 c.requires.placed
+          (λ u there. w.in-None.ensures.none u (subst (λ g. IsPlaced c.as_slice.result.now c.args.places.now g u) (sym number) (subst (λ ts. IsPlaced ts c.args.places.now is.0 u) (sym value) there))) is.3
+      | in-Some+else-is_empty+else-is_same+else-not-is_empty w ↦
+          let u = w.in-Some.other.now in
+          let here : IsPlaced old c.args.places.now is.0 u =
+          subst (λ ts. IsPlaced ts c.args.places.now is.0 u) value (subst (λ g. IsPlaced c.as_slice.result.now c.args.places.now g u) number w.in-Some.ensures.some) in
+          by.placed_again old c.args.places.now is.0 is.1 c.args.t is.2 c.requires.placed u here here.1 here.4
+          (sym (w.args_of-in-Some.ensures is.0 here.1 here.4) ∙ by.empty_yes w.args_of-in-Some.result.now w.if-not-is_empty.ensures)
+          (λ none. by.empty_no w.args_of.result.now w.if-is_empty.ensures (w.args_of.ensures is.0 is.1 is.2 ∙ none)) is.3
+    ] in
+    subst (λ ts. HasPlaces ts (slice_set c.args.places.now c.class_of-g.result c.len.result)) (sym c.in_ok-push.ensures.items)
+    (subst (λ g. HasPlaces (old ++ c.args.t ∷ []) (slice_set c.args.places.now g c.len.result)) (sym number)
+    (subst (λ n. HasPlaces (old ++ c.args.t ∷ []) (slice_set c.args.places.now is.0 n)) (sym (c.len.ensures ∙ c.args.types.now.ok.0)) made))

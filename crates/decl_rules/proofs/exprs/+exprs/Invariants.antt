@@ -15,4 +15,4 @@ abbrev pub decreases-walk_exprs : goal.decreases-walk_exprs
 decreases-walk_exprs l = 2 * size.exprs (plains l.es.now) + 1
 
 abbrev pub invariant-walk_exprs-loop-e : goal.invariant-walk_exprs-loop-e
-invariant-walk_exprs-loop-e l = spec.exprs (plains (drop l.e-index l.es)) l.first ≡ spec.exprs (plains l.es) l.fn.first
+invariant-walk_exprs-loop-e l = spec.exprs (spec.test_of l.generics) (plains (drop l.e-index l.es)) l.first ≡ spec.exprs (spec.test_of l.generics) (plains l.es) l.fn.first

@@ -4,4 +4,4 @@ use Rattle.decl_rules.specs.Walk as spec
 use Rattle.decl_rules.proofs.members.walk_members.Given as goal
 
 abbrev pub invariant-loop-m : goal.invariant-loop-m
-invariant-loop-m l = spec.members (map member_plain (drop l.m-index l.members)) l.first ≡ spec.members (map member_plain l.members) l.fn.first
+invariant-loop-m l = spec.members (spec.test_of l.generics) (map member_plain (drop l.m-index l.members)) l.first ≡ spec.members (spec.test_of l.generics) (map member_plain l.members) l.fn.first

@@ -27,10 +27,10 @@ abbrev pub decreases-walk_catches : goal.decreases-walk_catches
 decreases-walk_catches l = 2 * size.catches (catch_row (map catch_plain l.xs.now)) + 1
 
 abbrev pub invariant-walk_stmts-loop-x : goal.invariant-walk_stmts-loop-x
-invariant-walk_stmts-loop-x l = spec.stmts (stmts_plain (drop l.x-index l.xs)) l.first ≡ spec.stmts (stmts_plain l.xs) l.fn.first
+invariant-walk_stmts-loop-x l = spec.stmts (spec.test_of l.generics) (stmts_plain (drop l.x-index l.xs)) l.first ≡ spec.stmts (spec.test_of l.generics) (stmts_plain l.xs) l.fn.first
 
 abbrev pub invariant-walk_groups-loop-x : goal.invariant-walk_groups-loop-x
-invariant-walk_groups-loop-x l = spec.groups (group_row (map group_plain (drop l.x-index l.xs))) l.first ≡ spec.groups (group_row (map group_plain l.xs)) l.fn.first
+invariant-walk_groups-loop-x l = spec.groups (spec.test_of l.generics) (group_row (map group_plain (drop l.x-index l.xs))) l.first ≡ spec.groups (spec.test_of l.generics) (group_row (map group_plain l.xs)) l.fn.first
 
 abbrev pub invariant-walk_catches-loop-x : goal.invariant-walk_catches-loop-x
-invariant-walk_catches-loop-x l = spec.catches (catch_row (map catch_plain (drop l.x-index l.xs))) l.first ≡ spec.catches (catch_row (map catch_plain l.xs)) l.fn.first
+invariant-walk_catches-loop-x l = spec.catches (spec.test_of l.generics) (catch_row (map catch_plain (drop l.x-index l.xs))) l.first ≡ spec.catches (spec.test_of l.generics) (catch_row (map catch_plain l.xs)) l.fn.first

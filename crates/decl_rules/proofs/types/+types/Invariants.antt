@@ -12,4 +12,4 @@ abbrev pub decreases-walk_types : goal.decreases-walk_types
 decreases-walk_types l = 2 * size.types (view.types (map type_plain l.xs.now)) + 1
 
 abbrev pub invariant-walk_types-loop-x : goal.invariant-walk_types-loop-x
-invariant-walk_types-loop-x l = spec.types (view.types (map type_plain (drop l.x-index l.xs))) l.first ≡ spec.types (view.types (map type_plain l.xs)) l.fn.first
+invariant-walk_types-loop-x l = spec.types (spec.test_of l.generics) (view.types (map type_plain (drop l.x-index l.xs))) l.first ≡ spec.types (spec.test_of l.generics) (view.types (map type_plain l.xs)) l.fn.first

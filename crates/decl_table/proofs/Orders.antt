@@ -1,0 +1,166 @@
+-- Where no supertype is wrong, the supertypes that the world declares are in order.
+use Rattle.std.proofs.Common.{◌≡◌, ℕ, zero, suc, ◌+◌, ◌<◌, Bool, true, false, List, [], ◌∷◌, ◌++◌, map, length, Option, Some, None, ◌⊎◌, inl, inr, refl, sym, ap, ◌∙◌, subst, arith}
+use Rattle.std.specs.Prelude.{slice_get, if◌then◌else◌, Contains}
+use Rattle.std.specs.Option.{option_map}
+use Rattle.std.proofs.lemmas.Option.{slice_get_within}
+use Rattle.java_tree.specs.declared.tree.Name.{Name}
+use Rattle.java_tree.specs.declared.tree.Head.{Head}
+use Rattle.java_tree.specs.declared.tree.Head.TheVariants as head
+use Rattle.java_tree.specs.Plain as t
+use Rattle.java_tree.specs.Plain.{TypeExpr, TypeExprs, TypeDecl}
+use Rattle.class_world.specs.declared.world.World.{World}
+use Rattle.class_world.specs.declared.world.TypeInfo.{TypeInfo}
+use Rattle.class_world.specs.declared.world.JavaType.{JavaType}
+use Rattle.class_world.specs.declared.world.JavaType.TheVariants as ty
+use Rattle.class_world.specs.Types.{IsTypeOver, a_class}
+use Rattle.class_world.specs.Sound.{IsSuper, AreSupers}
+use Rattle.class_world.specs.Subclasses.{IsDirectSuper}
+use Rattle.class_world.proofs.Forms.{class_kind, array_kind, same_class}
+use Rattle.class_world.proofs.Orders.{class_parts}
+use Rattle.rule_order.specs.declared.Breach.{Breach}
+use Rattle.type_names.specs.declared.known.JavaNames.{JavaNames}
+use Rattle.type_names.specs.Known.{File}
+use Rattle.written_types.specs.Places.{Place}
+use Rattle.written_types.specs.Types.{arrays, variable, named_type, head_type, joined, type_of, types_of, takes}
+use Rattle.written_types.specs.Breaks.{node_of, head_of, args_of, NamesType}
+use Rattle.written_types.proofs.Places.{variable_not}
+use Rattle.type_headers.specs.Declared.{Declaration, declarations, headers, place_of, written_supers}
+use Rattle.built_in_types.specs.declared.types.BuiltIns.{BuiltIns}
+use Rattle.declared_types.specs.Rules.{wants_class, DeclaredTypeBreaches}
+use Rattle.program_world.specs.ProgramWorld.{is_super, supers_of, place_among, world_of}
+use Rattle.decl_table.proofs.Bases.{AreBases, IsBase}
+use Rattle.decl_table.proofs.Wholes.{IsWhole, Fits, said_parts, joined_parts, type_over}
+use Rattle.decl_table.proofs.Fitting.{place_fits, get_there}
+use Rattle.decl_table.proofs.Listed.{get_front, contains_at}
+use Rattle.decl_table.proofs.Supers.{IsInfoOf, type_at, same_params, IsWrittenSuper, super_at}
+
+-- ---- a written class type
+
+named_class : (p : Place) (n : Name) (v m : Option ℕ) (args : List JavaType) (g : ℕ) (xs : List JavaType) → variable n p.vars ≡ v → p.mean n ≡ m
+    → named_type p v m args ≡ Some (ty.Class g xs) → NamesType p (head.Path (n ∷ [])) g × (args ≡ xs)
+named_class p n (Some k) m [] g xs var mean e = absurd (let is : ty.Var k ≡ ty.Class g xs = cc e in cc is)
+named_class p n (Some k) m (a ∷ args) g xs var mean e = absurd (cc e)
+named_class p n None None args g xs var mean e = absurd (cc e)
+named_class p n None (Some c) args g xs var mean e = split (takes (p.params c) (length args)) e
+  where
+    split : (b : Bool) → (if b then Some (ty.Class c args) else None) ≡ Some (ty.Class g xs) → NamesType p (head.Path (n ∷ [])) g × (args ≡ xs)
+    split false e = absurd (cc e)
+    split true e =
+        let is : ty.Class c args ≡ ty.Class g xs = cc e in
+        let same = same_class c g args xs is in
+        ((n, refl, variable_not n p.vars var, mean ∙ ap Some same.0), same.1)
+
+head_class : (p : Place) (h : Head) (args : List JavaType) (g : ℕ) (xs : List JavaType) → head_type p h args ≡ Some (ty.Class g xs) → NamesType p h g × (args ≡ xs)
+head_class p (head.Prim q) [] g xs e = absurd (let is : ty.Prim q ≡ ty.Class g xs = cc e in cc is)
+head_class p (head.Prim q) (a ∷ args) g xs e = absurd (cc e)
+head_class p (head.Path []) args g xs e = absurd (cc e)
+head_class p (head.Path (n ∷ [])) args g xs e = named_class p n (variable n p.vars) (p.mean n) args g xs refl refl e
+head_class p (head.Path (n ∷ m ∷ names)) args g xs e = absurd (cc e)
+
+no_levels : (d g : ℕ) (xs : List JavaType) (z : JavaType) → ty.Class g xs ≡ arrays d z → z ≡ ty.Class g xs
+no_levels zero g xs z e = sym e
+no_levels (suc d) g xs z e = absurd (cc (class_kind g xs, array_kind (arrays d z), e))
+
+none_written : (p : Place) (xs : TypeExprs) → types_of p xs ≡ Some [] → xs ≡ t.NoTypes
+none_written p t.NoTypes e = refl
+none_written p (t.AndType x xs) e = absurd (let parts = joined_parts (type_of p x) (types_of p xs) [] e in cc parts.4)
+
+-- its head names the class, and without arguments it has none
+pub class_written : (p : Place) (x : TypeExpr) (g : ℕ) (xs : List JavaType) → type_of p x ≡ Some (ty.Class g xs) → NamesType p (head_of x) g × (xs ≡ [] → args_of x ≡ t.NoTypes)
+class_written p (t.Written node h s ys d) g xs e =
+    let parts = said_parts p h d (types_of p ys) (ty.Class g xs) e in
+    let named = head_class p h parts.0 g xs (parts.3 ∙ ap Some (no_levels d g xs parts.1 parts.4)) in
+    (named.0, λ none. none_written p ys (parts.2 ∙ ap Some (named.1 ∙ none)))
+
+-- ---- supertypes in order
+
+map_some : {A B : Type 0} (f : A → B) (o : Option A) (y : B) → option_map f o ≡ Some y → (x : A) × (o ≡ Some x) × (f x ≡ y)
+map_some f None y e = absurd (cc e)
+map_some f (Some x) y e = (x, refl, cc e)
+
+abbrev Whole : Type 0
+Whole = (s : JavaType) → is_super s ≡ true → (g : ℕ) × (xs : List JavaType) × (s ≡ ty.Class g xs) × IsWhole s
+
+bare_super : (w : World) (n g : ℕ) (info : TypeInfo) → slice_get w.types g ≡ Some info → info.params ≡ 0 → IsSuper w n (ty.Class g [])
+bare_super w n g info at none = (a_class at (inl refl) (λ k a e. absurd (cc e)) (λ k a e. absurd (cc e)), (g, [], info, refl, at, sym none))
+
+-- what stands at a number is one
+one_there : {A : Type 0} (o : Option A) (x y : A) → o ≡ Some x → o ≡ Some y → x ≡ y
+one_there o x y e f = cc (e, f)
+
+abbrev AreRight : BuiltIns → JavaNames → List File → Type 0
+AreRight built j fs = (b : Breach) → DeclaredTypeBreaches j fs (headers built.types fs) b → ⊥
+
+written_super : (built : BuiltIns) (j : JavaNames) (fs : List File) → Whole → AreBases built.types → AreRight built j fs
+    → (k : ℕ) (x : Declaration) → slice_get (declarations fs) k ≡ Some x → (s : JavaType) → IsWrittenSuper (place_among built j fs x) x.decl s
+    → IsSuper (world_of built j fs) (length x.decl.params) s
+written_super built j fs whole bases right k x at s (i, y, there, says, super) =
+    let p = place_among built j fs x in
+    let w = world_of built j fs in
+    let fits = place_fits j built.types fs w x bases.count (same_params built j fs) in
+    let class = whole s super in
+    let over = (type_over p w (length x.decl.params) fits y s says class.3).0 in
+    let parts = class_parts w (length x.decl.params) s class.0 class.1 over class.2 in
+    let written = class_written p y class.0 class.1 (says ∙ ap Some class.2) in
+    let named = written.0 in
+    let known = fits.known named.0 class.0 named.3 in
+    let head = map_some (λ (i : TypeInfo). i.params) (slice_get (headers built.types fs) class.0) known.0.params known.2 in
+    let same : known.0 ≡ parts.0 = one_there _ known.0 parts.0 known.1 parts.1 in
+    (over, (class.0, class.1, parts.0, class.2, parts.1, elim parts.2 [
+      inr count ↦ count
+    | inl none ↦ ap length none ∙ sym (zero_if parts.0.params (λ some. right (record { node = (node_of y).id; rule = 2 })
+        (x, contains_at (declarations fs) k x at, inr (i, y, there, (refl, refl,
+        inr (inl (class.0, named, (head.0, head.1, inr (inr (subst (λ n. 0 < n) (sym (head.2 ∙ ap (λ (i : TypeInfo). i.params) same)) some, written.1 none))))))))))
+    ]))
+  where
+    zero_if : (n : ℕ) → (0 < n → ⊥) → n ≡ 0
+    zero_if zero not = refl
+    zero_if (suc n) not = absurd (not (omega arith))
+
+pub supers_in_order : (built : BuiltIns) (j : JavaNames) (fs : List File) → Whole → AreBases built.types → AreRight built j fs → AreSupers (world_of built j fs)
+supers_in_order built j fs whole bases right = record { top = top; supers = supers }
+  where
+    w : World
+    w = world_of built j fs
+
+    none_above : (info : TypeInfo) → IsBase 0 info → (supers : List JavaType) → info.supers ≡ supers → supers ≡ []
+    none_above info base [] e = refl
+    none_above info base (d ∷ ds) e = absurd (let low = base.1 0 d (ap (λ xs. slice_get xs 0) e) in omega (arith, low.1))
+
+    top : (info : TypeInfo) → slice_get (world_of built j fs).types 0 ≡ Some info → (info.params ≡ 0) × (info.supers ≡ [])
+    top info e = elim (type_at built j fs 0 info bases.count e) [
+        inl h ↦ (let base = bases.each 0 info h in (base.0, none_above info base info.supers refl))
+      | inr h ↦ absurd (omega (arith, h.2))
+      ]
+
+    object_super : (n : ℕ) → IsSuper (world_of built j fs) n (ty.Class 0 [])
+    object_super n =
+        let there = get_there built.types 0 (omega (arith, bases.count)) in
+        bare_super (world_of built j fs) n 0 there.0 (get_front built.types _ 0 there.0 there.1) (bases.each 0 there.0 there.1).0
+
+    built_super : (c : ℕ) (info : TypeInfo) (n k : ℕ) (d : JavaType) → slice_get built.types c ≡ Some info → slice_get info.supers k ≡ Some d → IsSuper (world_of built j fs) n d
+    built_super c info n k d at e =
+        let low = (bases.each c info at).1 k d e in
+        let within : c < length built.types = slice_get_within built.types c info at in
+        let there = get_there built.types low.0 (omega (arith, low.1, within)) in
+        subst (IsSuper (world_of built j fs) n) (sym low.2)
+        (bare_super (world_of built j fs) n low.0 there.0 (get_front built.types _ low.0 there.0 there.1) (bases.each low.0 there.0 there.1).0)
+
+    declared_super : (k : ℕ) (x : Declaration) (info : TypeInfo) (i : ℕ) (d : JavaType) → slice_get (declarations fs) k ≡ Some x → IsInfoOf (place_among built j fs) x info
+        → slice_get info.supers i ≡ Some d → IsSuper (world_of built j fs) info.params d
+    declared_super k x info i d at is e =
+        subst (λ n. IsSuper (world_of built j fs) n d) (sym (ap (λ (i : TypeInfo). i.params) is.3))
+        (elim (super_at (place_among built j fs x) x.decl i d (sym (ap (λ (v : TypeInfo). slice_get v.supers i) is.3) ∙ e)) [
+          inl object ↦ subst (IsSuper (world_of built j fs) (length x.decl.params)) (sym object) (object_super (length x.decl.params))
+        | inr written ↦ written_super built j fs whole bases right k x at d written
+        ])
+
+    supers : (c : ℕ) (info : TypeInfo) (d : JavaType) → slice_get (world_of built j fs).types c ≡ Some info → IsDirectSuper (world_of built j fs) c d
+        → IsSuper (world_of built j fs) info.params d
+    supers c info d at (own, there, k, e) =
+        let same : own ≡ info = one_there _ own info there at in
+        let e : slice_get info.supers k ≡ Some d = sym (ap (λ (v : TypeInfo). slice_get v.supers k) same) ∙ e in
+        elim (type_at built j fs c info bases.count at) [
+          inl h ↦ built_super c info info.params k d h e
+        | inr h ↦ declared_super h.0 h.1 info k d h.3 h.4 e
+        ]

@@ -1,0 +1,140 @@
+-- A program's declarations: the sets of rules on them in their order, and its world.
+use Rattle.std.specs.Prelude.{◌≡◌, ℕ, ◌+◌, ◌<◌, ◌≤◌, ◌⊎◌, Bool, false, List, [], ◌∷◌, map, Option, Some, None, nat_lt, slice_get, option_and_then, unwrap_or}
+use Rattle.std.specs.Option.{option_map}
+use Rattle.java_tree.specs.declared.tree.Name.{Name}
+use Rattle.java_tree.specs.declared.fault.Broken.{Broken}
+use Rattle.java_tree.specs.declared.fault.Family.{Family}
+use Rattle.java_tree.specs.declared.fault.Family.TheVariants as family
+use Rattle.java_tree.specs.Plain.{SourceUnit}
+use Rattle.rule_order.specs.declared.Breach.{Breach}
+use Rattle.rule_order.specs.First.{Breaches, Either, IsFirst}
+use Rattle.type_names.specs.declared.known.JavaNames.{JavaNames}
+use Rattle.type_names.specs.Known.{AreJavaNames, File, files_of}
+use Rattle.type_names.specs.Sees.{meant}
+use Rattle.type_names.specs.Rules.{Among, NameBreaches, ImportBreaches}
+use Rattle.decl_rules.specs.PlainRules.{BreaksPlain}
+use Rattle.decl_rules.specs.DeclaredRules.{BreaksDeclared, declared_types, declared_methods}
+use Rattle.class_world.specs.declared.world.World.{World}
+use Rattle.class_world.specs.declared.world.TypeInfo.{TypeInfo}
+use Rattle.class_world.specs.Ordered.{SameBut, IsClassBelowTwo}
+use Rattle.class_world.specs.Sound.{IsSound}
+use Rattle.built_in_types.specs.declared.words.Words.{Words}
+use Rattle.built_in_types.specs.declared.types.BuiltIns.{BuiltIns}
+use Rattle.built_in_types.specs.BuiltIns.{AreWords, built_in_types, built_in_methods, built_in_fields}
+use Rattle.type_headers.specs.Declared.{headers}
+use Rattle.declared_types.specs.Rules.{DeclaredTypeBreaches}
+use Rattle.super_rules.specs.Rules.{GenericSuperBreaches, SuperBreaches}
+use Rattle.method_rules.specs.Repeats.{RepeatsMethod}
+use Rattle.program_world.specs.ProgramWorld.{world_of}
+
+-- The files of a program, and the numbers of the names that the built-in types need.
+pub record Program : Type 0 where
+  pub java : JavaNames
+  pub words : Words
+  pub user : List SourceUnit
+  pub lib : List SourceUnit
+
+-- these are the numbers in the table of names
+abbrev pub AreNamed : List (List ℕ) → Program → Type 0
+AreNamed names p = AreJavaNames names p.java × AreWords names p.words
+
+abbrev pub files : Program → List File
+files p = files_of p.user p.lib
+
+abbrev pub built : Words → BuiltIns
+built w = record { types = built_in_types w; methods = built_in_methods w; fields = built_in_fields w }
+
+-- what is known of its types before written types are read
+abbrev pub types : Program → List TypeInfo
+types p = headers (built p.words).types (files p)
+
+-- its types, methods and fields
+abbrev pub world : Program → World
+world p = world_of (built p.words) p.java (files p)
+
+-- ---- the rules on names, and on what a program leaves out
+
+-- the type of this number is generic
+abbrev pub is_generic_type : List TypeInfo → ℕ → Bool
+is_generic_type ts c = unwrap_or (option_map (λ (info : TypeInfo). nat_lt 0 info.params) (slice_get ts c)) false
+
+-- whether a simple name means a generic type in a file
+abbrev pub is_generic_name : JavaNames → List File → List TypeInfo → File → Name → Bool
+is_generic_name j fs ts f n = unwrap_or (option_map (is_generic_type ts) (meant j fs f n)) false
+
+-- a generic type that a name means has this name
+abbrev pub NamesGenerics : List TypeInfo → JavaNames → List File → Type 0
+NamesGenerics ts j fs = (f : File) (n : Name) (c : ℕ) (info : TypeInfo) → meant j fs f n ≡ Some c → slice_get ts c ≡ Some info → 0 < info.params → info.name ≡ n
+
+-- what a file breaks of S10, S12, S13 and S16 to S19
+abbrev pub PlainBreaches : List (List ℕ) → JavaNames → List File → List TypeInfo → File → Breaches
+PlainBreaches names j fs ts f = BreaksPlain f.unit f.user names (is_generic_name j fs ts f)
+
+-- S10 to S20, S22 and S23
+abbrev pub ScopeBreaches : List (List ℕ) → Program → Breaches
+ScopeBreaches names p =
+    Either (Among (PlainBreaches names p.java (files p) (types p)) (files p))
+    (Either (NameBreaches p.java p.user p.lib) (GenericSuperBreaches p.java (files p) (types p)))
+
+-- ---- how many declarations there are
+
+abbrev pub sum : (SourceUnit → ℕ) → List SourceUnit → ℕ
+sum count [] = 0
+sum count (u ∷ us) = count u + sum count us
+
+abbrev pub type_count : Program → ℕ
+type_count p = sum declared_types p.user + sum declared_types p.lib
+
+abbrev pub method_count : Program → ℕ
+method_count p = sum declared_methods p.user + sum declared_methods p.lib
+
+-- which limit so many types and methods go past: none, that of the types (6), or that of the methods (7)
+abbrev pub IsLimitOver : (types methods : ℕ) → Option ℕ → Type 0
+IsLimitOver types methods None = (types ≤ 4096) × (methods ≤ 65536)
+IsLimitOver types methods (Some rule) = ((rule ≡ 6) × (4096 < types)) ⊎ ((rule ≡ 7) × (types ≤ 4096) × (65536 < methods))
+
+-- ---- the rules on declarations
+
+-- DR4: a declared type with its own variables is below two parameterizations of one type (JLS 8.1.5).
+abbrev pub ClashBreaches : World → Breaches
+ClashBreaches w b =
+    (c : ℕ) × (info : TypeInfo) × (slice_get w.types c ≡ Some info) × IsClassBelowTwo w c × (n : ℕ) × (info.node ≡ Some n) × (b.node ≡ n) × (b.rule ≡ 4)
+
+-- DR1 to DR12
+abbrev pub DeclarationBreaches : Program → Breaches
+DeclarationBreaches p =
+    Either (Among (λ f. BreaksDeclared f.unit) (files p))
+    (Either (ImportBreaches p.java (files p))
+    (Either (DeclaredTypeBreaches p.java (files p) (types p))
+    (Either (SuperBreaches p.java (files p) (types p))
+    (Either (RepeatsMethod (world p).methods) (ClashBreaches (world p))))))
+
+-- ---- what comes of a program
+
+abbrev pub IsNone : Breaches → Type 0
+IsNone S = (b : Breach) → S b → ⊥
+
+-- the first of a set, as the rule of a family
+abbrev pub IsFirstOf : Family → Breaches → Broken → Type 0
+IsFirstOf f S b = (b.family ≡ f) × ((n : ℕ) × (b.node ≡ Some n) × IsFirst S (Some (record { node = n; rule = b.number })))
+
+-- a rule on the whole program, which has no node
+abbrev pub IsLimit : ℕ → Broken → Type 0
+IsLimit rule b = (b.family ≡ family.L) × (b.number ≡ rule) × (b.node ≡ None)
+
+-- The broken rule that is named: one of the S rules, else L6, else L7, else one of the DR rules.
+abbrev pub IsRefusal : List (List ℕ) → Program → Broken → Type 0
+IsRefusal names p b =
+    IsFirstOf family.S (ScopeBreaches names p) b
+    ⊎ (IsNone (ScopeBreaches names p) × (4096 < type_count p) × IsLimit 6 b)
+    ⊎ (IsNone (ScopeBreaches names p) × (type_count p ≤ 4096) × (65536 < method_count p) × IsLimit 7 b)
+    ⊎ (IsNone (ScopeBreaches names p) × (type_count p ≤ 4096) × (method_count p ≤ 65536) × IsFirstOf family.DR (DeclarationBreaches p) b)
+
+-- No rule is broken, and the world is the program's, with the table of its order.
+pub record IsProgramWorld (names : List (List ℕ)) (p : Program) (w : World) : Type 0 where
+  pub scope : IsNone (ScopeBreaches names p)
+  pub types : type_count p ≤ 4096
+  pub methods : method_count p ≤ 65536
+  pub declared : IsNone (DeclarationBreaches p)
+  pub sound : IsSound w
+  pub same : SameBut (world p) w

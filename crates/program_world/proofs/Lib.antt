@@ -1,0 +1,4 @@
+pub mod Adding
+pub mod Own
+pub mod Supers
+pub mod Walking

@@ -1,0 +1,2 @@
+pub mod ProgramWorld
+pub mod Steps
