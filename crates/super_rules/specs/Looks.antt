@@ -68,16 +68,15 @@ abbrev pub IsLibrary : List TypeInfo → ℕ → Type 0
 IsLibrary types c = (info : TypeInfo) × (slice_get types c ≡ Some info) × (info.user ≡ false)
 
 -- where an edge goes to
-abbrev pub IsLed : JavaNames → List File → List TypeInfo → Edges → ℕ → ℕ → Type 0
-IsLed j fs types edges.All c g = IsSuperOf j fs types c g
-IsLed j fs types edges.FromLibraries c g = IsSuperOf j fs types c g
-IsLed j fs types edges.Superclasses c g = IsBuiltInSuper types c g ⊎ SaysSuperclass j fs types c g
+abbrev pub IsLed : JavaNames → List File → List TypeInfo → (classes : Bool) → ℕ → ℕ → Type 0
+IsLed j fs types false c g = IsSuperOf j fs types c g
+IsLed j fs types true c g = IsBuiltInSuper types c g ⊎ SaysSuperclass j fs types c g
 
 -- and from where
 abbrev pub IsDrawn : JavaNames → List File → List TypeInfo → Edges → ℕ → ℕ → Type 0
-IsDrawn j fs types edges.All c g = IsSuperOf j fs types c g
-IsDrawn j fs types edges.FromLibraries c g = IsLibrary types c × IsSuperOf j fs types c g
-IsDrawn j fs types edges.Superclasses c g = IsBuiltInSuper types c g ⊎ SaysSuperclass j fs types c g
+IsDrawn j fs types edges.All c g = IsLed j fs types false c g
+IsDrawn j fs types edges.FromLibraries c g = IsLibrary types c × IsLed j fs types false c g
+IsDrawn j fs types edges.Superclasses c g = IsLed j fs types true c g
 
 -- a graph of the types with exactly these edges
 pub record Draws (R : ℕ → ℕ → Type 0) (types : List TypeInfo) (graph : List (List ℕ)) : Type 0 where

@@ -36,16 +36,12 @@ pub(crate) fn graph_of(
 {
     let mut graph = Items::new(alloc);
     for (number, info) in types.iter().enumerate() {
-        let row = match edges {
-            Edges::FromLibraries if info.user => Items::new(alloc),
-            _ => row_of(alloc, number, info, entries, edges)?,
-        };
-        graph.push(row)?;
+        graph.push(drawn_row(alloc, number, info, entries, edges)?)?;
     }
     Ok(graph)
 }
 
-fn row_of(
+fn drawn_row(
     alloc: Global,
     number: usize,
     info: &TypeInfo,
@@ -53,7 +49,30 @@ fn row_of(
     edges: Edges,
 ) -> Result<Items<u32>, NoMemory>
     ensures { (java : JavaNames) (fs : List File) (types : List TypeInfo) → AreEntries java fs types entries.now (declarations fs) → slice_get types number ≡ Some info.now
-        → IfOk result (λ row. IsRow row (IsLed java fs types edges number)) }
+        → IfOk result (λ row. IsRow row (IsDrawn java fs types edges number)) }
+{
+    match edges {
+        Edges::All => row_of(alloc, number, info, entries, false),
+        Edges::FromLibraries => {
+            if info.user {
+                return Ok(Items::new(alloc));
+            }
+            row_of(alloc, number, info, entries, false)
+        }
+        Edges::Superclasses => row_of(alloc, number, info, entries, true),
+    }
+}
+
+/// The supertypes of a type, or its superclasses alone.
+fn row_of(
+    alloc: Global,
+    number: usize,
+    info: &TypeInfo,
+    entries: &[Entry<'_>],
+    classes: bool,
+) -> Result<Items<u32>, NoMemory>
+    ensures { (java : JavaNames) (fs : List File) (types : List TypeInfo) → AreEntries java fs types entries.now (declarations fs) → slice_get types number ≡ Some info.now
+        → IfOk result (λ row. IsRow row (IsLed java fs types classes number)) }
 {
     let first = BUILT_IN_TYPES as usize;
     if number < first {
@@ -61,10 +80,13 @@ fn row_of(
     }
     match entries.get(number - first) {
         None => Ok(Items::new(alloc)),
-        Some(entry) => match edges {
-            Edges::Superclasses => class_row(alloc, entry),
-            _ => written_row(alloc, entry),
-        },
+        Some(entry) => {
+            if classes {
+                class_row(alloc, entry)
+            } else {
+                written_row(alloc, entry)
+            }
+        }
     }
 }
 

@@ -1,0 +1,4 @@
+pub mod Files
+pub mod Edged
+pub mod Graphs
+pub mod Sets
