@@ -1,7 +1,8 @@
 -- Rows of supertypes.
 use Rattle.std.proofs.Common.{◌≡◌, ℕ, ◌+◌, ◌<◌, ◌≤◌, ◌-◌, Bool, true, false, List, [], ◌∷◌, ◌++◌, Some, map, take, length, get_or, ◌⊎◌, inl, inr, ◌↔◌, refl, sym, ap, ◌∙◌, subst, arith}
 use Rattle.std.specs.Prelude.{slice_get, Contains}
-use Rattle.std.proofs.lemmas.Option.{slice_get_within}
+use Rattle.std.specs.Option.{option_map}
+use Rattle.std.proofs.lemmas.Option.{slice_get_within, slice_get-map}
 use Rattle.std.proofs.lemmas.List.Elements.{Contains-append_left, Contains-append_right, Contains-push_cases}
 use Rattle.java_tree.specs.declared.tree.TypeExpr as code
 use Rattle.java_tree.specs.declared.tree.TypeExpr.{out-TypeExpr}
@@ -15,7 +16,7 @@ use Rattle.class_world.proofs.Forms.{same_class}
 use Rattle.type_names.specs.declared.known.JavaNames.{JavaNames}
 use Rattle.type_names.specs.Known.{File}
 use Rattle.type_reach.specs.Sources.{HasTarget}
-use Rattle.type_reach.proofs.Lists.{at_front, at_last, last_cases}
+use Rattle.type_reach.proofs.Lists.{at_front, at_last, last_cases, at_contains}
 use Rattle.written_types.specs.Places.{Place}
 use Rattle.written_types.specs.Breaks.{head_of, NamesType}
 use Rattle.written_types.specs.declared.scope.Named.{Named}
@@ -38,8 +39,12 @@ one_before Q xs y g h = (h.0, Contains-append_left xs (y ∷ []) h.0 h.1, h.2)
 one_last : {A : Type 0} (Q : A → ℕ → Type 0) (xs : List A) (y : A) (g : ℕ) → Q y g → OneOf Q (xs ++ y ∷ []) g
 one_last Q xs y g h = (y, Contains-append_right xs (y ∷ []) y (0, omega arith, refl), h)
 
-one_cases : {A : Type 0} (Q : A → ℕ → Type 0) (xs : List A) (y : A) (g : ℕ) → OneOf Q (xs ++ y ∷ []) g → OneOf Q xs g ⊎ Q y g
+pub one_cases : {A : Type 0} (Q : A → ℕ → Type 0) (xs : List A) (y : A) (g : ℕ) → OneOf Q (xs ++ y ∷ []) g → OneOf Q xs g ⊎ Q y g
 one_cases {A} Q xs y g h = elim (Contains-push_cases xs y h.0 h.1) [ inl old ↦ inl (h.0, old, h.2) | inr same ↦ inr (subst (λ (z : A). Q z g) (sym same) h.2) ]
+
+-- by the item at a place
+pub one_at : {A B : Type 0} (v : B → A) (Q : A → ℕ → Type 0) (xs : List B) (k : ℕ) (x : B) (g : ℕ) → slice_get xs k ≡ Some x → Q (v x) g → OneOf Q (map v xs) g
+one_at v Q xs k x g at h = (v x, at_contains (map v xs) k (v x) (slice_get-map v xs k ∙ ap (option_map v) at), h)
 
 pub row_begins : {A : Type 0} (Q : A → ℕ → Type 0) (Base : ℕ → Type 0) (row : List ℕ) → IsRow row Base → IsRow row (λ g. Base g ⊎ OneOf Q [] g)
 row_begins Q Base row h g = (λ has. inl ((h g).0 has), λ e. elim e [ inl b ↦ (h g).1 b | inr none ↦ absurd (omega (arith, none.1.1)) ])

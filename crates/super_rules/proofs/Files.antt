@@ -1,7 +1,7 @@
 -- The entries of declarations, file by file.
 use Rattle.std.proofs.Common.{◌≡◌, ℕ, ◌+◌, ◌<◌, Bool, List, [], ◌∷◌, ◌++◌, Some, inl, inr, ◌⊎◌, map, take, length, get_or, refl, sym, ap, ◌∙◌, subst, append_assoc, arith}
 use Rattle.std.specs.Prelude.{slice_get}
-use Rattle.std.proofs.lemmas.List.{take_more, map-append, length-map, length-take-le, length_push}
+use Rattle.std.proofs.lemmas.List.{take_more, map-append, length-map, length-append, length-take-le, length_push}
 use Rattle.java_tree.specs.declared.tree.SourceUnit as code_unit
 use Rattle.java_tree.specs.declared.tree.TypeDecl as code
 use Rattle.java_tree.specs.Plain.{SourceUnit}
@@ -12,9 +12,9 @@ use Rattle.type_names.specs.Known.{File}
 use Rattle.type_names.specs.Tables.{files_in}
 use Rattle.type_names.proofs.Held.{append_none, files_more}
 use Rattle.type_reach.proofs.Lists.{at_front, at_end, at_last, last_cases}
-use Rattle.type_headers.specs.Declared.{Declaration, declarations_from}
+use Rattle.type_headers.specs.Declared.{Declaration, declarations, declarations_from, header, headers}
 use Rattle.super_rules.specs.declared.entries.Entry.{Entry}
-use Rattle.super_rules.specs.Looks.{declared_in, StandAt, IsEntry, AreEntries}
+use Rattle.super_rules.specs.Looks.{declared_in, StandAt, IsEntry, AreEntries, HasEntries}
 
 pub entries_none : (j : JavaNames) (fs : List File) (types : List TypeInfo) → AreEntries j fs types [] []
 entries_none j fs types = record { size = refl; each = λ k e at. absurd (cc at) }
@@ -88,3 +88,11 @@ pub stand_behind : (user : Bool) (us : List code_unit.SourceUnit) (gs : List Fil
 stand_behind user us gs k g at =
     let fs = files_in user (map unit_plain us) in
     ap (slice_get (fs ++ gs)) (let size = count user us in let same : length us + k ≡ length fs + k = omega (arith, size) in same) ∙ at_end fs gs k ∙ at
+
+-- all declarations have numbers of types
+pub has_entries : (j : JavaNames) (fs : List File) (types built : List TypeInfo) (es given : List Entry) → given ≡ es → length built ≡ 16 → types ≡ headers built fs
+    → AreEntries j fs types es (declarations fs) → HasEntries j fs types given
+has_entries j fs types built es given same sixteen are h =
+    let size = ap length are ∙ length-append built (map header (declarations fs)) in
+    let count = length-map (declarations fs) header in
+    record { entries = subst (λ es. AreEntries j fs types es (declarations fs)) (sym same) h; few = omega (arith, size, count, sixteen) }

@@ -44,19 +44,19 @@ fn first_among(entries: &[Entry<'_>], generic: &[bool]) -> Option<Breach>
 {
     let mut first = None;
     for entry in entries {
-        let holds = entry.user && has_generic(entry, generic);
-        first = noted(first, 11, entry.decl.node, holds);
+        first = noted(first, 11, entry.decl.node, has_generic(entry, generic));
     }
     first
 }
 
-/// Whether a written supertype names a type whose flag is set.
+/// Whether a declaration of a user type has a supertype whose flag is set.
 fn has_generic(entry: &Entry<'_>, generic: &[bool]) -> bool
     ensures { (p : Place) → IsPlace entry.now.scope p
-        → IsTrue result ↔ ((g : ℕ) × NamesOneOf p (written_supers (decl_plain entry.now.decl.now)) g × (slice_get generic.now g ≡ Some true)) }
+        → IsTrue result ↔ ((entry.now.user ≡ true) × ((g : ℕ) × NamesOneOf p (written_supers (decl_plain entry.now.decl.now)) g × (slice_get generic.now g ≡ Some true))) }
 {
-    names_generic(&entry.scope, entry.decl.extends.as_slice(), generic)
-        || names_generic(&entry.scope, entry.decl.implements.as_slice(), generic)
+    entry.user
+        && (names_generic(&entry.scope, entry.decl.extends.as_slice(), generic)
+            || names_generic(&entry.scope, entry.decl.implements.as_slice(), generic))
 }
 
 fn names_generic(scope: &Scope<'_>, xs: &[TypeExpr], generic: &[bool]) -> bool
