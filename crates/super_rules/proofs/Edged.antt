@@ -97,7 +97,7 @@ class_of x n args is g = (
   λ h. (same_class n g args h.0 (sym is ∙ h.1)).0,
 )
 
-head_is : (x : code.TypeExpr) → head_of (type_plain x) ≡ (out-TypeExpr x).head
+pub head_is : (x : code.TypeExpr) → head_of (type_plain x) ≡ (out-TypeExpr x).head
 head_is x = ap head_of (type_out x)
 
 -- the type that a head names

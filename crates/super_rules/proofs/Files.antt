@@ -71,7 +71,7 @@ unit_next before n user us i u xs lt at is =
     let size : length old ≡ i = count user (take i us) ∙ length-take-le i us (omega (arith, lt)) in
     append_assoc xs (declarations_from before old) (declared_in n f)
     ∙ ap (λ l. xs ++ l) (ap (λ l. declarations_from before old ++ l) (sym (append_none (declared_in n f))) ∙ sym (declarations_append before n old (f ∷ []) (omega (arith, is, size)))
-      ∙ ap (declarations_from before) (sym (files_more user [] us i u lt at)))
+    ∙ ap (declarations_from before) (sym (files_more user [] us i u lt at)))
 
 -- user files, and then library files
 pub both_parts : (us ls : List code_unit.SourceUnit) (user lib : Bool)

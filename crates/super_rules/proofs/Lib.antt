@@ -2,3 +2,4 @@ pub mod Files
 pub mod Edged
 pub mod Graphs
 pub mod Sets
+pub mod Thrown

@@ -1,13 +1,13 @@
 -- What declarations break, one by one.
-use Rattle.std.proofs.Common.{◌≡◌, ℕ, ◌+◌, ◌<◌, ◌≤◌, Bool, true, List, [], ◌∷◌, Option, Some, None, map, length, ◌⊎◌, inl, inr, ◌↔◌, refl, sym, ap, ◌∙◌, subst, arith}
+use Rattle.std.proofs.Common.{◌≡◌, ℕ, ◌+◌, ◌<◌, ◌≤◌, ◌≢◌, Bool, true, false, not, ◌&&◌, List, [], ◌∷◌, Option, Some, None, map, length, ◌⊎◌, inl, inr, ◌↔◌, refl, sym, ap, ◌∙◌, subst, arith}
 use Rattle.std.specs.Prelude.{slice_get, IsTrue, Decides}
 use Rattle.std.proofs.lemmas.Option.{slice_get_within}
 use Rattle.java_tree.specs.Plain.{TypeDecl}
-use Rattle.java_tree.specs.View.{decl_plain}
+use Rattle.java_tree.specs.View.{decl_plain, member_plain}
 use Rattle.class_world.specs.declared.world.TypeInfo.{TypeInfo}
 use Rattle.rule_order.specs.declared.Breach.{Breach}
 use Rattle.rule_order.specs.First.{Breaches, Either, IsFirst}
-use Rattle.rule_order.specs.Noted.{At, Adds, noted}
+use Rattle.rule_order.specs.Noted.{At, SomeOf, Adds, noted}
 use Rattle.rule_order.proofs.Adding.{adds_nothing, adds_both, adds_alike, adds_noted, first_from_none}
 use Rattle.type_names.specs.declared.known.JavaNames.{JavaNames}
 use Rattle.type_names.specs.Known.{File}
@@ -15,7 +15,7 @@ use Rattle.type_reach.proofs.Lists.{contains_at, at_contains}
 use Rattle.written_types.specs.Places.{Place}
 use Rattle.type_headers.specs.Declared.{Declaration, declarations, place_of, written_supers}
 use Rattle.super_rules.specs.declared.entries.Entry.{Entry}
-use Rattle.super_rules.specs.Rules.{Declares, WritesSuper, IsGenericAbove, GenericSuperBreaches, SuperBreaches}
+use Rattle.super_rules.specs.Rules.{Declares, WritesSuper, IsAbove, IsGenericAbove, IsThrowable, GenericSuperBreaches, ThrowsBreaches, SuperBreaches}
 use Rattle.super_rules.specs.Looks.{IsEntry, AreFlags, NamesOneOf, TypeBreaches, Below}
 
 pub below_none : {A : Type 0} (xs : List A) (F : ℕ → A → Breaches) (a : Option Breach) → Adds (Below 0 xs F) a a
@@ -98,6 +98,29 @@ module _ (j : JavaNames) (fs : List File) (types : List TypeInfo) (k : ℕ) (e :
 
 abbrev pub SuperAt : JavaNames → List File → List TypeInfo → ℕ → Declaration → Breaches
 SuperAt j fs types k x = TypeBreaches j fs types (16 + k) x
+
+-- the rules at one declaration
+pub type_adds : (j : JavaNames) (fs : List File) (types : List TypeInfo) (c : ℕ) (e : Entry) (x : Declaration) (itself bare throwable : Bool) (a m n r : Option Breach) → IsEntry j fs types e x
+    → Adds (SomeOf (map member_plain e.decl.now.members) (ThrowsBreaches j fs types x)) a m → IsTrue itself ↔ IsAbove j fs types c c → n ≡ noted m 3 e.decl.now.node itself
+    → IsTrue bare ↔ (e.decl.now.params ≡ []) → IsTrue throwable ↔ IsThrowable j fs types c → r ≡ noted n 12 e.decl.now.node (not bare && throwable) → Adds (TypeBreaches j fs types c x) a r
+type_adds j fs types c e x itself bare throwable a m n r is throws above first none thrown second =
+    let node : e.decl.now.node ≡ x.decl.node = ap (λ (d : TypeDecl). d.node) is.decl in
+    let Generic = (x.decl.params ≢ []) × IsThrowable j fs types c in
+    let Throws = SomeOf x.decl.members (ThrowsBreaches j fs types x) in
+    let Itself = At 3 x.decl.node (IsAbove j fs types c c) in
+    let GenericAt = At 12 x.decl.node Generic in
+    let one : Adds Throws a m = subst (λ (d : TypeDecl). Adds (SomeOf d.members (ThrowsBreaches j fs types x)) a m) is.decl throws in
+    let two : Adds Itself m n = subst (Adds Itself m) (sym (first ∙ ap (λ k. noted m 3 k itself) node)) (adds_noted 3 x.decl.node (IsAbove j fs types c c) itself m above) in
+    let three : Adds GenericAt n r = subst (Adds GenericAt n) (sym (second ∙ ap (λ k. noted n 12 k (not bare && throwable)) node)) (adds_noted 12 x.decl.node Generic (not bare && throwable) n (decides bare throwable none thrown)) in
+    adds_both Throws (Either Itself GenericAt) a m r one (adds_both Itself GenericAt m n r two three)
+  where
+    params : e.decl.now.params ≡ x.decl.params
+    params = ap (λ (d : TypeDecl). d.params) is.decl
+
+    decides : (b t : Bool) → IsTrue b ↔ (e.decl.now.params ≡ []) → IsTrue t ↔ IsThrowable j fs types c → Decides (not b && t) ((x.decl.params ≢ []) × IsThrowable j fs types c)
+    decides true t none thrown = (λ never. absurd (cc never), λ h. absurd (h.0 (sym params ∙ none.0 refl)))
+    decides false true none thrown = (λ h. (λ empty. let never : false ≡ true = none.1 (params ∙ empty) in cc never, thrown.0 refl), λ h. refl)
+    decides false false none thrown = (λ never. absurd (cc never), λ h. absurd (let never : false ≡ true = thrown.1 h.1 in cc never))
 
 pub super_first : (j : JavaNames) (fs : List File) (types : List TypeInfo) (n : ℕ) (r : Option Breach) → length (declarations fs) ≤ n → Adds (Below n (declarations fs) (SuperAt j fs types)) None r
     → IsFirst (SuperBreaches j fs types) r

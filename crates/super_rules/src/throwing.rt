@@ -64,10 +64,10 @@ fn note_type(
         → AreFlags throwable.now (IsThrowable java fs types) → Adds (TypeBreaches java fs types number x) first result }
 {
     let decl = entry.decl;
-    let generic = !decl.params.is_empty();
     let first = note_members(&entry.scope, decl.members.as_slice(), throwable, first);
     let first = noted(first, 3, decl.node, is_set(cyclic, number));
-    noted(first, 12, decl.node, generic && is_set(throwable, number))
+    let generic = !decl.params.is_empty();
+    noted(first, 12, decl.node, generic & is_set(throwable, number))
 }
 
 fn note_members(
@@ -80,8 +80,11 @@ fn note_members(
         → Adds (SomeOf (map member_plain members.now) (ThrowsBreaches java fs types x)) first result }
 {
     for m in members {
-        if let Member::Method { throws, .. } = m {
-            first = note_throws(scope, throws.as_slice(), throwable, first);
+        match m {
+            Member::Field { .. } => {}
+            Member::Method { throws, .. } => {
+                first = note_throws(scope, throws.as_slice(), throwable, first);
+            }
         }
     }
     first

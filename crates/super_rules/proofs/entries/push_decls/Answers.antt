@@ -26,5 +26,5 @@ pub returns : goal.returns
 returns c = λ java fs f xs stands at is user so_far.
     let ds = c.as_slice-decl-items.result.now in
     let all = ap (map (declares c.args.file f)) (take_all c.loop-decl.decl-index ds c.loop-decl-test.false ∙ c.as_slice-decl-items.ensures)
-      ∙ declared_all c.args.file f c.args.unit.now.types (ap (λ (u : SourceUnit). u.types) is) in
+    ∙ declared_all c.args.file f c.args.unit.now.types (ap (λ (u : SourceUnit). u.types) is) in
     subst (λ l. AreEntries java fs c.args.types.now c.loop-decl.entries.items (xs ++ l)) all (c.loop-decl.invariant java fs f xs stands at user so_far)

@@ -21,8 +21,7 @@ returns-else-names_generic c = λ p at.
     let first = subst (λ xs. IsTrue c.names_generic.result ↔ ((g : ℕ) × NamesOneOf p (map type_plain xs) g × (slice_get c.args.generic.now g ≡ Some true))) c.as_slice.ensures (c.names_generic.ensures p at) in
     let r = c.names_generic-else-names_generic.result in
     let says = subst (λ xs. IsTrue r ↔ ((g : ℕ) × NamesOneOf p (map type_plain xs) g × (slice_get c.args.generic.now g ≡ Some true))) c.as_slice-else-names_generic.ensures
-    (c.names_generic-else-names_generic.ensures p at) in
-    (
+    (c.names_generic-else-names_generic.ensures p at) in (
       λ e. let found = says.0 e in (c.if-entry.true, (found.0, (found.1.0, Contains-append_right extends implements found.1.0 found.1.1, found.1.2), found.2)),
       λ h. elim (Contains-append_cases extends implements h.1.1.0 h.1.1.1) [
         | inl front ↦

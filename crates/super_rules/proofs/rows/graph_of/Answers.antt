@@ -34,7 +34,10 @@ returns c = λ java fs has.
     let all : c.loop-number.number ≡ length types = omega (arith, c.loop-number-test.false, c.loop-number.auto.number-end) in
     record {
       size = c.loop-number.invariant.size ∙ all;
-      edge = λ d g. (λ h. ((drawn d g).0 h).1, λ h.
-        let lt = drawn_within java fs types has.few c.args.edges d g h in
-        (drawn d g).1 (omega (arith, lt, all), h));
+      edge = λ d g. (
+        λ h. ((drawn d g).0 h).1,
+        λ h.
+            let lt = drawn_within java fs types has.few c.args.edges d g h in
+            (drawn d g).1 (omega (arith, lt, all), h),
+      );
     }

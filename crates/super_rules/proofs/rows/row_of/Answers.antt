@@ -22,8 +22,8 @@ returns-then-classes c = λ java fs types has at.
     let there = has.each (n - 16) e (slice_get_read c.args.entries.now (length c.args.entries.now) (n - 16) e refl found.3.0 found.1) in
     let is = there.2 in
     IfOk-weaker c.class_row.result _ _ (λ row h.
-      subst (λ b. IsRow row (IsLed java fs types b n)) (sym c.if-classes.true) (by.class_led java fs types n there.0 e c.if-number-first.false there.1 is row
-      (by.class_own java fs types there.0 e is row h))) (c.class_row.ensures (place_of java fs types there.0) is.place)
+    subst (λ b. IsRow row (IsLed java fs types b n)) (sym c.if-classes.true) (by.class_led java fs types n there.0 e c.if-number-first.false there.1 is row
+    (by.class_own java fs types there.0 e is row h))) (c.class_row.ensures (place_of java fs types there.0) is.place)
 
 pub returns-else-classes : goal.returns-else-classes
 returns-else-classes c = λ java fs types has at.
@@ -33,5 +33,5 @@ returns-else-classes c = λ java fs types has at.
     let there = has.each (n - 16) e (slice_get_read c.args.entries.now (length c.args.entries.now) (n - 16) e refl found.3.0 found.1) in
     let is = there.2 in
     IfOk-weaker c.written_row.result _ _ (λ row h.
-      subst (λ b. IsRow row (IsLed java fs types b n)) (sym c.if-classes.false) (by.written_led java fs types n there.0 e c.if-number-first.false there.1 is row
-      (subst (λ d. IsRow row (NamesOneOf (place_of java fs types there.0) (written_supers d))) is.decl h))) (c.written_row.ensures (place_of java fs types there.0) is.place)
+    subst (λ b. IsRow row (IsLed java fs types b n)) (sym c.if-classes.false) (by.written_led java fs types n there.0 e c.if-number-first.false there.1 is row
+    (subst (λ d. IsRow row (NamesOneOf (place_of java fs types there.0) (written_supers d))) is.decl h))) (c.written_row.ensures (place_of java fs types there.0) is.place)
