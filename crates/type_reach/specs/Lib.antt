@@ -1,1 +1,4 @@
 pub mod Reach
+pub mod Sources
+pub mod Spread
+pub mod Paths

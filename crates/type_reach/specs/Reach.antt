@@ -1,5 +1,5 @@
 -- Ways in a directed graph, which is the list of the targets of each node. A node's number is its place.
-use Rattle.std.specs.Prelude.{◌≡◌, ℕ, ◌<◌, ◌⊎◌, Bool, true, List, Some, Contains, slice_get, length}
+use Rattle.std.specs.Prelude.{◌≡◌, ℕ, ◌<◌, ◌⊎◌, Bool, true, List, Option, Some, None, Contains, slice_get, length}
 
 -- an edge of the graph, between nodes of it
 abbrev pub IsEdge : List (List ℕ) → ℕ → ℕ → Type 0
@@ -13,3 +13,8 @@ pub data Leads (g : List (List ℕ)) : ℕ → ℕ → Type 0 where
 -- the node is a marked one, or a way leads from it to one
 abbrev pub Reaches : List (List ℕ) → List Bool → ℕ → Type 0
 Reaches g marks a = (slice_get marks a ≡ Some true) ⊎ ((b : ℕ) × Leads g a b × (slice_get marks b ≡ Some true))
+
+-- the first node, by number, from which a way leads back to itself
+abbrev pub IsFirstOnCycle : List (List ℕ) → Option ℕ → Type 0
+IsFirstOnCycle g None = (a : ℕ) → Leads g a a → ⊥
+IsFirstOnCycle g (Some a) = Leads g a a × ((b : ℕ) → b < a → Leads g b b → ⊥)
