@@ -18,7 +18,7 @@ use Rattle.class_world.specs.declared.world.TypeInfo.{TypeInfo}
 use Rattle.class_world.specs.declared.world.MethodInfo.{MethodInfo}
 use Rattle.class_world.specs.declared.world.FieldInfo.{FieldInfo}
 use Rattle.class_world.specs.Merged.{IsAboveItself}
-use Rattle.class_world.specs.Ordered.{SameBut, IsClassBelowTwo}
+use Rattle.class_world.specs.Ordered.{SameBut}
 use Rattle.class_world.specs.Sound.{AreSupers}
 use Rattle.built_in_types.specs.declared.words.Words.{Words}
 use Rattle.built_in_types.specs.declared.types.BuiltIns.{BuiltIns}
@@ -32,7 +32,6 @@ use Rattle.decl_table.specs.Program.{Program, java, files, built, ScopeSet, Scop
 use Rattle.decl_table.specs.Judged.{IsJudged, IsDeclared, IsEarly, IsTabled, named}
 use Rattle.decl_table.proofs.Orders.{supers_in_order}
 use Rattle.decl_table.proofs.Rises.{none_rises}
-use Rattle.decl_table.proofs.Clashing.{declared_clash}
 
 -- ---- how many types there are
 
@@ -90,11 +89,6 @@ in_order b j fs bases none = supers_in_order b j fs bases (λ x h. none x (inl (
 
 pub not_above : (b : BuiltIns) (j : JavaNames) (fs : List File) → AreBases b.types → IsNone (DeclarationSet b j fs) → (c : ℕ) → IsAboveItself (world_of b j fs) c → ⊥
 not_above b j fs bases none c itself = none_rises b j fs bases (λ x h. none x (inl (inr (inr (inr (inl h)))))) c itself
-
-pub not_below : (b : BuiltIns) (j : JavaNames) (fs : List File) → AreBases b.types → IsNone (DeclarationSet b j fs) → (c : ℕ) → IsClassBelowTwo (world_of b j fs) c → ⊥
-not_below b j fs bases none c below =
-    let x = declared_clash b j fs bases c below in
-    none (record { node = x.1.decl.node.id; rule = 4 }) (inr (c, x.4.0, x.4.1, below, x.1.decl.node.id, x.4.2, refl, refl))
 
 pub tabled_declared : (b : BuiltIns) (j : JavaNames) (fs : List File) (w : World) (r : Result Judged NoMemory) → w ≡ world_of b j fs → IsNone (DeclarationSet b j fs) → IfOk r (IsTabled w)
     → IfOk r (IsDeclared b j fs)

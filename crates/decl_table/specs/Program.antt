@@ -17,13 +17,13 @@ use Rattle.decl_rules.specs.DeclaredRules.{BreaksDeclared, declared_types, decla
 use Rattle.class_world.specs.declared.world.World.{World}
 use Rattle.class_world.specs.declared.world.TypeInfo.{TypeInfo}
 use Rattle.class_world.specs.declared.world.MethodInfo.{MethodInfo}
-use Rattle.class_world.specs.Ordered.{SameBut, IsClassBelowTwo}
+use Rattle.class_world.specs.Ordered.{SameBut, IsFirstBelowTwo}
 use Rattle.class_world.specs.Sound.{IsSound}
 use Rattle.built_in_types.specs.declared.words.Words.{Words}
 use Rattle.built_in_types.specs.declared.types.BuiltIns.{BuiltIns}
 use Rattle.built_in_types.specs.BuiltIns.{name_of, built_in_types, built_in_methods, built_in_fields}
 use Rattle.built_in_types.specs.declared.words.Word.TheVariants.{Java, Lang, Io}
-use Rattle.type_headers.specs.Declared.{Declaration, declarations, headers}
+use Rattle.type_headers.specs.Declared.{headers}
 use Rattle.declared_types.specs.Rules.{DeclaredTypeBreaches}
 use Rattle.super_rules.specs.Rules.{GenericSuperBreaches, SuperBreaches}
 use Rattle.method_rules.specs.Repeats.{RepeatsMethod}
@@ -105,10 +105,11 @@ IsLimitOver types methods (Some rule) = ((rule ≡ 6) × (4096 < types)) ⊎ ((r
 
 -- ---- the rules on declarations
 
--- DR4: a declared type with its own variables is below two parameterizations of one type (JLS 8.1.5).
+-- DR4: a declared type with its own variables is below two parameterizations of one type (JLS 8.1.5); at the first such type in the order of declarations,
+-- which is that of nodes.
 abbrev pub ClashBreaches : World → Breaches
 ClashBreaches w b =
-    (c : ℕ) × (info : TypeInfo) × (slice_get w.types c ≡ Some info) × IsClassBelowTwo w c × (n : ℕ) × (info.node ≡ Some n) × (b.node ≡ n) × (b.rule ≡ 4)
+    (c : ℕ) × (info : TypeInfo) × (slice_get w.types c ≡ Some info) × IsFirstBelowTwo w (Some c) × (n : ℕ) × (info.node ≡ Some n) × (b.node ≡ n) × (b.rule ≡ 4)
 
 -- DR1 to DR12 but for DR4, in a program of these files, headers of types, and methods
 abbrev pub RuleBreaches : JavaNames → List File → List TypeInfo → List MethodInfo → Breaches
@@ -122,10 +123,6 @@ DeclarationSet b j fs = Either (RuleBreaches j fs (headers b.types fs) (world_of
 
 abbrev pub DeclarationBreaches : Program → Breaches
 DeclarationBreaches p = DeclarationSet (built p.words) (java p) (files p)
-
--- Types are declared in the order of their nodes, as in trees that are numbered one behind the other.
-abbrev pub AreInOrder : List Declaration → Type 0
-AreInOrder xs = (i k : ℕ) (x y : Declaration) → i < k → slice_get xs i ≡ Some x → slice_get xs k ≡ Some y → x.decl.node.id < y.decl.node.id
 
 -- ---- what comes of a program
 

@@ -2,6 +2,8 @@
 #![tactic(auto)]
 
 mod small;
+#[cfg(test)]
+mod tests;
 mod built_ins;
 mod classes;
 mod declarations;

@@ -7,7 +7,7 @@ ghost use Rattle.rule_order.specs.First.{IsFirst};
 ghost use Rattle.built_in_types.specs.BuiltIns.{AreWords};
 ghost use Rattle.type_names.specs.Known.{files_of};
 ghost use Rattle.type_names.specs.Tables.{StandsFor};
-ghost use Rattle.type_headers.specs.Declared.{declarations, headers};
+ghost use Rattle.type_headers.specs.Declared.{headers};
 ghost use Rattle.class_world.specs.Merged.{IsAboveItself};
 ghost use Rattle.class_world.specs.Ordered.{IsClassBelowTwo};
 ghost use Rattle.class_world.specs.Sound.{AreSupers};
@@ -16,7 +16,6 @@ ghost use Rattle.decl_rules.specs.DeclaredRules.{declared_types, declared_method
 ghost use Rattle.decl_table.specs.Bases.{AreBases};
 ghost use Rattle.decl_table.specs.Judged.{IsJudged, IsDeclared, IsEarly, IsTabled, IsBuilding, named};
 ghost use Rattle.decl_table.specs.Program as spec;
-ghost use Rattle.decl_table.specs.Program.{AreInOrder};
 
 use crate::declarations::{first_clash, first_rule_breach};
 use crate::limits::broken_limit;
@@ -45,7 +44,6 @@ pub fn build(
     names: &mut Names,
 ) -> Result<World, Fault>
     requires few { length names.old < 2 ^ 31 }
-    requires order { AreInOrder (declarations (files_of (map unit_plain user.now) (map unit_plain lib.now))) }
     ensures kept { IsFront names.old names.new }
     ensures few { length names.new ≤ length names.old + 14 }
     ensures built { IsBuilding names.new (map unit_plain user.now) (map unit_plain lib.now) result }
@@ -68,7 +66,6 @@ fn judge(
     user: &[SourceUnit],
     lib: &[SourceUnit],
 ) -> Result<Judged, NoMemory>
-    requires order { AreInOrder (declarations (files_of (map unit_plain user.now) (map unit_plain lib.now))) }
     ensures { IfOk result (IsJudged names.now (record { words = words.now; user = map unit_plain user.now; lib = map unit_plain lib.now })) }
 {
     let java = java_names(words);
@@ -121,7 +118,6 @@ fn judge_declarations(
     user: &[SourceUnit],
     lib: &[SourceUnit],
 ) -> Result<Judged, NoMemory>
-    requires order { AreInOrder (declarations (files_of (map unit_plain user.now) (map unit_plain lib.now))) }
     requires bases { AreBases built.types }
     requires stands { StandsFor meant.now java (files_of (map unit_plain user.now) (map unit_plain lib.now)) }
     requires headers { types.now ≡ headers built.types (files_of (map unit_plain user.now) (map unit_plain lib.now)) }
