@@ -34,6 +34,12 @@ lower_or_last k i h = grind (arith, h)
 covered_longer : (old new : List JavaType) → ((k : ℕ) (u : JavaType) → slice_get old k ≡ Some u → slice_get new k ≡ Some u) → (t : JavaType) → IsCovered old t → IsCovered new t
 covered_longer old new kept t h = (h.0, h.1, h.2, h.3, (h.4.0, kept h.4.0 _ h.4.1), h.5)
 
+-- where a type is covered, that of its class without arguments is
+bare_covered : (ts : List JavaType) (u t : JavaType) (g : ℕ) (xs : List JavaType) → u ≡ ty.Class g xs → t ≡ ty.Class g [] → IsCovered ts u → IsCovered ts t
+bare_covered ts u t g xs e is h =
+    let number : g ≡ h.0 = (same_class g h.0 xs h.1 (sym e ∙ h.3)).0 in
+    (h.0, [], h.2, is ∙ ap (λ g. ty.Class g []) number, h.4, inl refl)
+
 -- a list has at most two types of each class
 
 slot_of : f.JavaType-F JavaType → ℕ
@@ -56,6 +62,11 @@ slot_full c (x ∷ xs) some = ap slot_of (ty.outs-Class c (x ∷ xs))
 slot_is : (c : ℕ) (xs : List JavaType) → ((xs ≡ []) × (slot (ty.Class c xs) ≡ 2 * c)) ⊎ ((xs ≡ [] → ⊥) × (slot (ty.Class c xs) ≡ 2 * c + 1))
 slot_is c [] = inl (refl, slot_bare c)
 slot_is c (x ∷ xs) = let some : x ∷ xs ≡ [] → ⊥ = λ e. cc e in inr (some, slot_full c (x ∷ xs) some)
+
+slot_below : (n q : ℕ) (t : JavaType) (g : ℕ) (xs : List JavaType) → t ≡ ty.Class g xs → g < n → q ≡ slot t → q < 2 * n
+slot_below n q t g xs shape lt is =
+    let number : q ≡ slot (ty.Class g xs) = is ∙ ap slot shape in
+    elim (slot_is g xs) [ inl bare ↦ omega (arith, number, bare.1, lt) | inr full ↦ omega (arith, number, full.1, lt) ]
 
 module _ (w : World) (found : List JavaType) (places : List ℕ) (has : HasPlaces found places)
     (classes : (k : ℕ) (t : JavaType) → slice_get found k ≡ Some t → (g : ℕ) × (xs : List JavaType) × (t ≡ ty.Class g xs) × (g < length w.types)) where
@@ -89,8 +100,7 @@ module _ (w : World) (found : List JavaType) (places : List ℕ) (has : HasPlace
       let any = Any-from_list_any (eqb q) (map slot found) h in
       let at = mapped_at slot found any.0 (get_or (map slot found) any.0 any.1) (slice_get-get_or (map slot found) any.0 any.1 any.2) in
       let is = classes any.0 at.0 at.1 in
-      let number : q ≡ slot (ty.Class is.0 is.1) = eqb-true q any.1 any.4 ∙ sym any.3 ∙ at.2 ∙ ap slot is.2 in
-      elim (slot_is is.0 is.1) [ inl bare ↦ omega (arith, number, bare.1, is.3) | inr full ↦ omega (arith, number, full.1, is.3) ]
+      slot_below (length w.types) q at.0 is.0 is.1 is.2 is.3 (eqb-true q any.1 any.4 ∙ sym any.3 ∙ at.2)
 
   pub at_most_two : length found ≤ 2 * length w.types
   at_most_two =
@@ -277,10 +287,8 @@ module _ (w : World) (sups : HaveClassSupers w) (n : ℕ) (ts : List JavaType) (
             elim h.5 [
               | inl plain ↦ bare (no_items xs (count ∙ sym plain.0))
               | inr flat ↦
-                  let put = closed (ty.Class c xs) (substitute xs h.2) listed (c, xs, refl, (h.0, h.1, h.2, h.3, h.4, inl (count, refl))) in
-                  let shape : substitute xs h.2 ≡ ty.Class sup.1.0 (map (substitute xs) sup.1.1) = ap (substitute xs) sup.1.2 ∙ put_class xs sup.1.0 sup.1.1 in
-                  let number : sup.1.0 ≡ put.0 = (same_class sup.1.0 put.0 _ put.1 (sym shape ∙ put.3)).0 in
-                  (put.0, [], put.2, flat.2 ∙ ap erased sup.1.2 ∙ erased_class sup.1.0 sup.1.1 ∙ ap (λ g. ty.Class g []) number, put.4, inl refl)
+                  bare_covered ts (substitute xs h.2) t sup.1.0 (map (substitute xs) sup.1.1) (ap (substitute xs) sup.1.2 ∙ put_class xs sup.1.0 sup.1.1)
+                  (flat.2 ∙ ap erased sup.1.2 ∙ erased_class sup.1.0 sup.1.1) (closed (ty.Class c xs) (substitute xs h.2) listed (c, xs, refl, (h.0, h.1, h.2, h.3, h.4, inl (count, refl))))
             ]
       ]
     where
@@ -309,7 +317,7 @@ module _ (w : World) (sups : HaveClassSupers w) (n : ℕ) (ts : List JavaType) (
       let none = (sups.top up.0 (subst (λ c. slice_get w.types c ≡ Some up.0) zero_is up.1)).1 in
       absurd (cc (ap (λ xs. slice_get xs up.3) none, up.4))
   all_reached s t (object r) h = inr refl
-  all_reached s t (raw c xs) (inl h) = inl (h.0, [], h.2, ap (λ c. ty.Class c []) (sym (same_class h.0 c h.1 xs (sym h.3)).0), h.4, inl refl)
+  all_reached s t (raw c xs) (inl h) = inl (bare_covered ts s t c xs refl refl h)
   all_reached s t (raw c xs) (inr e) = inr (ap (λ c. ty.Class c []) (same_class c 0 xs [] e).0)
   all_reached s t (null r) h = let k = class_only s h in absurd (cc (null_kind, class_kind k.0 k.1, k.2))
   all_reached s t (arrays {s = x} r r' up) h = let k = class_only s h in absurd (cc (array_kind x, class_kind k.0 k.1, k.2))

@@ -14,6 +14,7 @@ pub mod Words
 pub mod Merges
 pub mod Places
 pub mod Climbs
+pub mod Generics
 pub mod Collected
 pub mod Searches
 pub mod Transports

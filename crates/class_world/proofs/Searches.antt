@@ -1,14 +1,17 @@
 -- The search for a sequence of the classes, step by step.
-use Rattle.std.proofs.Common.{◌≡◌, ℕ, ◌+◌, ◌<◌, ◌≤◌, zero, suc, Bool, true, false, List, [], ◌∷◌, ◌++◌, Some, ◌⊎◌, inl, inr, refl, sym, ap, ◌∙◌, subst, length, arith}
+use Rattle.std.proofs.Common.{◌≡◌, ℕ, ◌+◌, ◌<◌, ◌≤◌, zero, suc, Bool, true, false, List, [], ◌∷◌, ◌++◌, Option, None, Some, ◌⊎◌, ◌↔◌, inl, inr, map, refl, sym, ap, ◌∙◌, subst, length, arith}
 use Rattle.std.specs.Prelude.{slice_get, slice_set, replicate}
+use Rattle.std.proofs.lemmas.List.{map-append}
 use Rattle.std.proofs.lemmas.Option.{slice_get_within}
+use Rattle.class_world.specs.declared.world.TypeInfo.{TypeInfo}
 use Rattle.class_world.specs.declared.world.World.{World}
 use Rattle.class_world.specs.declared.world.JavaType.{JavaType}
 use Rattle.class_world.specs.declared.world.JavaType.TheVariants as ty
 use Rattle.class_world.specs.Subclasses.{IsDirectSuper}
 use Rattle.class_world.specs.Subtypes.{Subtype, same, through}
 use Rattle.class_world.specs.Sound.{AreSupers}
-use Rattle.class_world.specs.Merged.{IsAboveItself, IsSearch, IsSequence}
+use Rattle.class_world.specs.declared.sequence.Visit.{Visit}
+use Rattle.class_world.specs.Merged.{FinishedBefore, IsAboveItself, IsSearch, IsSequence, declared_supers, supers_in}
 use Rattle.class_world.proofs.Forms.{same_class}
 use Rattle.class_world.proofs.Substs.{there_is}
 use Rattle.class_world.proofs.Lifts.{bare_declared}
@@ -108,6 +111,9 @@ module _ (w : World) (sound : AreSupers w) where
       one_chain zero zero a b le at at' = let e : a ≡ b = cc (at, at') in subst (λ b. Subtype w (ty.Class a []) (ty.Class b [])) e same
       one_chain zero (suc j) a b le at at' = absurd (cc at')
       one_chain (suc i) j a b le at at' = absurd (cc at)
+
+  pub last_stacked : (seen finished : List Bool) (stack rest listed : List ℕ) (top : ℕ) → IsSearch w seen finished stack listed → stack ≡ rest ++ top ∷ [] → top < length w.types
+  last_stacked seen finished stack rest listed top h is_stack = h.stacked (length rest) top (ap (λ xs. slice_get xs (length rest)) is_stack ∙ at_last rest top)
 
   -- the class on top is finished
   pub search_leaves : (seen finished new : List Bool) (stack rest listed longer : List ℕ) (top : ℕ) → IsSearch w seen finished stack listed → stack ≡ rest ++ top ∷ []
@@ -220,9 +226,46 @@ module _ (w : World) (sound : AreSupers w) where
       let lt : g < length w.types = super_within c g is.1 direct in
       ((is.1, direct), elim (flag_at finished g (subst (λ n. g < n) (sym size) lt)) [ inl done ↦ absurd (not done) | inr h ↦ h ])
 
--- which of the items before are finished
-abbrev pub FinishedBefore : List Bool → List JavaType → ℕ → Type 0
-FinishedBefore finished ds i = (k g : ℕ) (args : List JavaType) → k < i → slice_get ds k ≡ Some (ty.Class g args) → slice_get finished g ≡ Some true
+-- the declared supertypes of a class, by their places
+pub direct_at : (w : World) (c : ℕ) (d : JavaType) → ((k : ℕ) × (slice_get (declared_supers w c) k ≡ Some d)) ↔ IsDirectSuper w c d
+direct_at w c d = (
+  λ h. go (slice_get w.types c) refl h,
+  λ h. (h.2, ap (λ o. slice_get (supers_in o) h.2) h.1 ∙ h.3),
+)
+  where
+    go : (o : Option TypeInfo) → slice_get w.types c ≡ o → ((k : ℕ) × (slice_get (supers_in o) k ≡ Some d)) → IsDirectSuper w c d
+    go None e h = absurd (cc h.1)
+    go (Some info) e h = (info, e, h.0, h.1)
+
+-- a class's declared supertypes, read as a list
+pub direct_in : (w : World) (c : ℕ) (items : List JavaType) → items ≡ declared_supers w c → (d : JavaType) → ((k : ℕ) × (slice_get items k ≡ Some d)) ↔ IsDirectSuper w c d
+direct_in w c items e d = subst (λ items. ((k : ℕ) × (slice_get items k ≡ Some d)) ↔ IsDirectSuper w c d) (sym e) (direct_at w c d)
+
+-- the classes of the supertypes that the visits have passed are finished
+
+abbrev pub classes : List Visit → List ℕ
+classes = map (λ (v : Visit). v.class)
+
+abbrev pub HavePassed : World → List Bool → List Visit → Type 0
+HavePassed w finished stack = (i : ℕ) (v : Visit) → slice_get stack i ≡ Some v → FinishedBefore finished (declared_supers w v.class) v.passed
+
+pub classes_snoc : (stack rest : List Visit) (v : Visit) → stack ≡ rest ++ v ∷ [] → classes stack ≡ classes rest ++ v.class ∷ []
+classes_snoc stack rest v e = ap classes e ∙ map-append (λ (v : Visit). v.class) rest (v ∷ [])
+
+-- those below one on the stack, as more is finished
+pub passed_below : (w : World) (finished new : List Bool) (stack rest : List Visit) (top : Visit) → HavePassed w finished stack → stack ≡ rest ++ top ∷ []
+    → ((g : ℕ) → slice_get finished g ≡ Some true → slice_get new g ≡ Some true) → HavePassed w new rest
+passed_below w finished new stack rest top h e kept i v at k g args lt there = kept g (h i v (ap (λ vs. slice_get vs i) e ∙ at_first rest top v i at) k g args lt there)
+
+pub passed_push : (w : World) (finished : List Bool) (stack new : List Visit) (v : Visit) → HavePassed w finished stack → new ≡ stack ++ v ∷ []
+    → FinishedBefore finished (declared_supers w v.class) v.passed → HavePassed w finished new
+passed_push w finished stack new v h e here i u at = elim (first_or_end stack v u i (ap (λ vs. slice_get vs i) (sym e) ∙ at)) [
+  | inl was ↦ h i u was
+  | inr last ↦ subst (λ (v : Visit). FinishedBefore finished (declared_supers w v.class) v.passed) (sym last.0) here
+]
+
+pub none_before : (finished : List Bool) (ds : List JavaType) → FinishedBefore finished ds 0
+none_before finished ds k g args lt = absurd (omega (arith, lt))
 
 pub finished_next : (finished : List Bool) (ds : List JavaType) (i n : ℕ) (x : JavaType) → FinishedBefore finished ds i → slice_get ds i ≡ Some x → ((h : ℕ) (args : List JavaType) → x ≡ ty.Class h args → n ≡ h)
     → slice_get finished n ≡ Some true → FinishedBefore finished ds (i + 1)

@@ -3,6 +3,7 @@ pub mod Subtypes
 pub mod Sound
 pub mod Merged
 pub mod Climbs
+pub mod Graphs
 pub mod Sorts
 pub mod Ordered
 pub mod Subclasses

@@ -1,5 +1,5 @@
 -- What the pieces say from which the table of the order is built.
-use Rattle.std.specs.Prelude.{◌≡◌, ℕ, ◌<◌, ◌≤◌, ◌/◌, Bool, true, false, List, [], ◌∷◌, ◌++◌, Some, slice_get, length, ◌↔◌, ◌⊎◌}
+use Rattle.std.specs.Prelude.{◌≡◌, ℕ, ◌<◌, ◌≤◌, ◌/◌, Bool, true, false, List, [], ◌∷◌, ◌++◌, Option, None, Some, slice_get, length, ◌↔◌, ◌⊎◌}
 use Rattle.class_world.specs.declared.world.World.{World}
 use Rattle.class_world.specs.declared.world.TypeInfo.{TypeInfo}
 use Rattle.class_world.specs.declared.world.Above.{Above}
@@ -86,6 +86,18 @@ AmongFirst P ts i = (k : ℕ) × (d : JavaType) × (k < i) × (slice_get ts k �
 -- a parameterized type above s
 abbrev pub IsBase : World → JavaType → JavaType → Type 0
 IsBase w s u = ((g : ℕ) × Parameterizes g u) × Subtype w s u
+
+abbrev pub supers_in : Option TypeInfo → List JavaType
+supers_in None = []
+supers_in (Some info) = info.supers
+
+-- the supertypes that a class declares, in order
+abbrev pub declared_supers : World → ℕ → List JavaType
+declared_supers w c = supers_in (slice_get w.types c)
+
+-- the classes of the first i types are finished
+abbrev pub FinishedBefore : List Bool → List JavaType → ℕ → Type 0
+FinishedBefore finished ds i = (k g : ℕ) (args : List JavaType) → k < i → slice_get ds k ≡ Some (ty.Class g args) → slice_get finished g ≡ Some true
 
 -- a class is above itself: the class of one of its declared supertypes is below it or it
 abbrev pub IsAboveItself : World → ℕ → Type 0

@@ -1,8 +1,10 @@
 //! Classes below two parameterizations of one class (JLS 3rd edition, 8.1.5), in a world whose order may be broken.
 
-ghost use Rattle.std.specs.Prelude.{◌≡◌, ℕ, ◌<◌, ◌^◌, ◌↔◌, Some, length, slice_get, IsTrue, IfOk};
+ghost use Rattle.std.specs.Prelude.{◌≡◌, ℕ, ◌<◌, ◌^◌, ◌↔◌, Some, length, map, nat_lt, slice_get, IsTrue, IfOk};
 ghost use Rattle.class_world.specs.Sound.{HaveClassSupers};
+ghost use Rattle.class_world.specs.declared.world.TypeInfo.{TypeInfo};
 ghost use Rattle.class_world.specs.Merged.{HasPlaces};
+ghost use Rattle.class_world.specs.Graphs.{AreClassesOf, IsSuperGraph};
 ghost use Rattle.class_world.specs.Climbs.{Climbs, Collide, IsClassType, IsSuperBy};
 ghost use Rattle.class_world.specs.Ordered.{IsClassBelowTwo, IsFirstBelowTwo};
 
@@ -12,27 +14,60 @@ use crate::subtypes::is_raw;
 use crate::table::{add, args_of, class_of, listed};
 use crate::types::{erase, substituted};
 use crate::world::{JavaType, World};
-use java_tree::NoMemory;
+use java_tree::{Items, NoMemory};
 use std::alloc::Global;
+use type_reach::{Graph, reaching};
 
-/// The first class, by number, that is below two parameterizations of one class. For each class the time is that of going over the declared supertypes of what is above it.
+/// The first class, by number, that is below two parameterizations of one class. Takes time for the types and their declared supertypes, and for each class that is generic or below a generic one the time of going over the declared supertypes of what is above it.
 pub fn first_below_two(alloc: Global, w: &World) -> Result<Option<u32>, NoMemory>
     requires supers { HaveClassSupers w.now }
     requires few { length w.now.types < 2 ^ 32 }
     ensures { IfOk result (λ o. IsFirstBelowTwo w.now o) }
 {
     let count = w.types.len();
+    let graph = super_graph(alloc, w)?;
+    let generic = generic_classes(alloc, w)?;
+    let below_generic = reaching(alloc, &graph, generic.as_slice())?;
     let mut places = vec![in alloc; 0usize; count]?;
     let places = places.as_mut_slice();
     for c in 0..count as u32 {
-        if is_below_two(alloc, w, places, c)? {
+        if below_generic[c as usize] && is_below_two(alloc, w, places, c)? {
             return Ok(Some(c));
         }
     }
     Ok(None)
 }
 
-/// Whether a class with its own variables is below two parameterizations of one class. What is above it is listed, each type once, until two of them come together; at most two types of each class are.
+/// The graph of the classes, from each to those of its declared supertypes.
+fn super_graph(alloc: Global, w: &World) -> Result<Graph, NoMemory>
+    ensures { IfOk result (λ g. IsSuperGraph w.now g) }
+{
+    let mut graph = Items::new(alloc);
+    for info in w.types.as_slice() {
+        graph.push(super_classes(alloc, info.supers.as_slice())?)?;
+    }
+    Ok(graph)
+}
+
+fn super_classes(alloc: Global, supers: &[JavaType]) -> Result<Items<u32>, NoMemory>
+    ensures { IfOk result (λ row. AreClassesOf supers.now row) }
+{
+    let mut classes = Items::new(alloc);
+    for d in supers {
+        classes.push(class_of(d))?;
+    }
+    Ok(classes)
+}
+
+/// For each class whether it has parameters.
+fn generic_classes(alloc: Global, w: &World) -> Result<Vec<bool>, NoMemory>
+    ensures { IfOk result (λ v. v.items ≡ map (λ (info : TypeInfo). nat_lt 0 info.params) w.now.types) }
+{
+    let infos = w.types.as_slice().iter();
+    Ok(infos.map(|info| 0 < info.params).collect(alloc)?)
+}
+
+/// Whether a class with its own variables is below two parameterizations of one class. Lists what is above it until two of them come together: of each class at most the type without arguments and one with some.
 fn is_below_two(alloc: Global, w: &World, places: &mut [usize], c: u32) -> Result<bool, NoMemory>
     requires supers { HaveClassSupers w.now }
     requires size { length places.old ≡ length w.now.types }
@@ -53,7 +88,7 @@ fn is_below_two(alloc: Global, w: &World, places: &mut [usize], c: u32) -> Resul
     Ok(false)
 }
 
-/// Adds the declared supertypes of the type at a place of the list, those that the list doesn't cover. `false` where two parameterizations of one class come together.
+/// Adds the declared supertypes of the type at a place of the list, those that it doesn't cover. `false` where two parameterizations of one class come together.
 fn add_supers(
     alloc: Global,
     w: &World,

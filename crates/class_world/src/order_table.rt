@@ -27,7 +27,7 @@ pub(crate) enum Filled {
     BelowTwo(u32),
 }
 
-/// Gives a world the table of its order. The time is that of going over the declared supertypes, for each as many words as there are classes by 64, and for each class at most the square of the parameterized types above it.
+/// Gives a world the table of its order. The time is that of going over the declared supertypes, and for each over the row of its class: as many words as there are classes by 64, and the parameterized types above it.
 pub fn with_order(alloc: Global, w: World) -> Result<Ordered, NoMemory>
     requires supers { AreSupers w }
     requires few { length w.types < 2 ^ 32 }

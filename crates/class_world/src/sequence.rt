@@ -3,7 +3,7 @@
 ghost use Rattle.std.specs.Prelude.{◌≡◌, ℕ, ◌<◌, ◌≤◌, ◌^◌, List, [], Some, true, false, length, slice_get, IsTrue, IfOk, IfSome, IfNone, ◌↔◌, ◌∷◌};
 ghost use Rattle.class_world.specs.Sound.{AreSupers};
 ghost use Rattle.class_world.specs.Subclasses.{IsDirectSuper};
-ghost use Rattle.class_world.specs.Merged.{IsAboveItself, IsSearch, IsSequence};
+ghost use Rattle.class_world.specs.Merged.{FinishedBefore, IsAboveItself, IsSearch, IsSequence, declared_supers};
 ghost use Rattle.class_world.specs.Sorts.{IsSorted};
 ghost use Rattle.class_world.specs.declared.world.JavaType.TheVariants as ty;
 
@@ -18,7 +18,14 @@ pub(crate) enum Sorted {
     AboveItself(u32),
 }
 
-/// Sorts the classes; takes time for the types and, for each class, at most the square of its declared supertypes.
+/// A class on the stack of the search; the classes of its first `passed` declared supertypes are finished.
+#[derive(Clone, Copy)]
+pub(crate) struct Visit {
+    class: u32,
+    passed: usize,
+}
+
+/// Sorts the classes. Takes time for the types and their declared supertypes.
 pub(crate) fn sort(alloc: Global, w: &World) -> Result<Sorted, NoMemory>
     requires supers { AreSupers w.now }
     requires few { length w.now.types < 2 ^ 32 }
@@ -55,44 +62,58 @@ fn finish(
     ensures kept { IfOk result (λ o. IfNone o ((c : ℕ) → slice_get seen.old.items c ≡ Some true → slice_get seen.new.items c ≡ Some true)) }
     ensures above { IfOk result (λ o. IfSome o (λ c. IsAboveItself w.now c)) }
 {
-    let mut stack = vec![in alloc; start]?;
+    let mut stack = vec![in alloc;
+        Visit {
+            class: start,
+            passed: 0
+        },
+    ]?;
     while let Some(top) = stack.pop() {
         match first_unfinished(w, finished.as_slice(), top) {
             None => {
-                finished[top as usize] = true;
-                listed.push(top)?;
+                finished[top.class as usize] = true;
+                listed.push(top.class)?;
             }
-            Some(g) => {
+            Some((place, g)) => {
                 if seen[g as usize] {
-                    return Ok(Some(top));
+                    return Ok(Some(top.class));
                 }
                 seen[g as usize] = true;
-                stack.push(top)?;
-                stack.push(g)?;
+                stack.push(Visit {
+                    passed: place,
+                    ..top
+                })?;
+                stack.push(Visit {
+                    class: g,
+                    passed: 0,
+                })?;
             }
         }
     }
     Ok(None)
 }
 
-/// The class of the first declared supertype that is not finished.
-fn first_unfinished(w: &World, finished: &[bool], c: u32) -> Option<u32>
+/// The place and the class of the first declared supertype whose class is not finished.
+fn first_unfinished(w: &World, finished: &[bool], visit: Visit) -> Option<(usize, u32)>
     requires supers { AreSupers w.now }
     requires size { length finished.now ≡ length w.now.types }
-    ensures some { IfSome result (λ g. ((args : List JavaType) × IsDirectSuper w.now c (ty.Class g args)) × (slice_get finished.now g ≡ Some false)) }
-    ensures none { IfNone result ((g : ℕ) (args : List JavaType) → IsDirectSuper w.now c (ty.Class g args) → slice_get finished.now g ≡ Some true) }
+    requires passed { FinishedBefore finished.now (declared_supers w.now visit.class) visit.passed }
+    ensures some { IfSome result (λ r. ((args : List JavaType) × IsDirectSuper w.now visit.class (ty.Class r.1 args)) × (slice_get finished.now r.1 ≡ Some false)) }
+    ensures passed { IfSome result (λ r. FinishedBefore finished.now (declared_supers w.now visit.class) r.0) }
+    ensures none { IfNone result ((g : ℕ) (args : List JavaType) → IsDirectSuper w.now visit.class (ty.Class g args) → slice_get finished.now g ≡ Some true) }
 {
-    for d in supers_of(w, c) {
-        let g = class_of(d);
+    let supers = supers_of(w, visit.class);
+    for at in visit.passed..supers.len() {
+        let g = class_of(&supers[at]);
         if !is_finished(finished, g) {
-            return Some(g);
+            return Some((at, g));
         }
     }
     None
 }
 
 pub(crate) fn supers_of(w: &World, c: u32) -> &[JavaType]
-    ensures { (d : JavaType) → ((k : ℕ) × (slice_get result.now k ≡ Some d)) ↔ IsDirectSuper w.now c d }
+    ensures { result.now ≡ declared_supers w.now c }
 {
     match w.types.get(c as usize) {
         Some(info) => info.supers.as_slice(),

@@ -1,8 +1,8 @@
 //! Worlds made by hand: `class Object {}`, `class A { first() second() }` and `class B extends A { first() }`; and one of generic types like the library's.
 
-ghost use Rattle.std.specs.Prelude.{◌≡◌, ℕ, ◌<◌, ◌^◌, ◌⊎◌, [], ◌∷◌, Some, length, slice_get, IsTrue, IfOk};
+ghost use Rattle.std.specs.Prelude.{◌≡◌, ℕ, ◌<◌, ◌^◌, ◌⊎◌, [], ◌∷◌, Some, false, length, slice_get, IsTrue, IfOk};
 ghost use Rattle.class_world.specs.Types.{AreReferences, IsReference, IsTypeOver};
-ghost use Rattle.class_world.specs.Sound.{AreSupers, IsSound, IsSuper};
+ghost use Rattle.class_world.specs.Sound.{AreSupers, HaveClassSupers, IsClassOver, IsSound, IsSuper};
 ghost use Rattle.class_world.specs.declared.world.TypeInfo.{TypeInfo};
 ghost use Rattle.class_world.specs.declared.order_table.Ordered.TheVariants as answer;
 ghost use Rattle.class_world.specs.Names.{ListsMethods};
@@ -10,8 +10,9 @@ ghost use Rattle.class_world.specs.Subclasses.{IsClassTree};
 ghost use Rattle.class_world.specs.declared.world.JavaType.TheVariants as ty;
 
 use crate::{
-    JavaType, MethodInfo, MethodTable, Ordered, TypeInfo, World, erase, find_method, fits,
-    is_below, is_same, is_sub, is_sub_class, member_names, super_as, superclass, with_order,
+    JavaType, MethodInfo, MethodTable, Ordered, TypeInfo, World, erase, find_method,
+    first_below_two, fits, is_below, is_same, is_sub, is_sub_class, member_names, super_as,
+    superclass, with_order,
 };
 use java_tree::tree::{Name, Primitive};
 use java_tree::{Boxed, Items, NoMemory};
@@ -180,30 +181,31 @@ fn may_have(w: &World, c: u32, xs: &[JavaType]) -> bool
     }
 }
 
-fn is_super(w: &World, n: u32, d: &JavaType) -> bool
-    ensures { IsTrue result → IsSuper w.now n d.now }
+/// Whether a class of `n` parameters may have the supertype, a raw one too where `raw`.
+fn is_super(w: &World, raw: bool, n: u32, d: &JavaType) -> bool
+    ensures { IsTrue result → IsClassOver w.now n d.now × ((raw ≡ false) → IsSuper w.now n d.now) }
 {
     match d {
-        JavaType::Class(g, xs) => has_count(w, *g, xs.as_slice()) && is_type(w, n, d),
+        JavaType::Class(g, xs) => (raw || has_count(w, *g, xs.as_slice())) && is_type(w, n, d),
         _ => false,
     }
 }
 
-fn are_supers_of(w: &World, n: u32, ds: &[JavaType]) -> bool
-    ensures { IsTrue result → (k : ℕ) (d : JavaType) → slice_get ds.now k ≡ Some d → IsSuper w.now n d }
+fn are_supers_of(w: &World, raw: bool, n: u32, ds: &[JavaType]) -> bool
+    ensures { IsTrue result → (k : ℕ) (d : JavaType) → slice_get ds.now k ≡ Some d → IsClassOver w.now n d × ((raw ≡ false) → IsSuper w.now n d) }
 {
     match ds.split_first() {
         None => true,
-        Some((d, ds)) => is_super(w, n, d) && are_supers_of(w, n, ds),
+        Some((d, ds)) => is_super(w, raw, n, d) && are_supers_of(w, raw, n, ds),
     }
 }
 
-fn class_is_fine(w: &World, c: usize) -> bool
-    ensures { IsTrue result → (info : TypeInfo) → slice_get w.now.types c ≡ Some info → ((k : ℕ) (d : JavaType) → slice_get info.supers k ≡ Some d → IsSuper w.now info.params d) }
+fn class_is_fine(w: &World, raw: bool, c: usize) -> bool
+    ensures { IsTrue result → (info : TypeInfo) → slice_get w.now.types c ≡ Some info → (k : ℕ) (d : JavaType) → slice_get info.supers k ≡ Some d → IsClassOver w.now info.params d × ((raw ≡ false) → IsSuper w.now info.params d) }
 {
     match w.types.get(c) {
         None => true,
-        Some(info) => are_supers_of(w, info.params, info.supers.as_slice()),
+        Some(info) => are_supers_of(w, raw, info.params, info.supers.as_slice()),
     }
 }
 
@@ -216,11 +218,12 @@ fn top_is_fine(w: &World) -> bool
     }
 }
 
-fn are_fine(w: &World) -> bool
-    ensures { IsTrue result → AreSupers w.now }
+fn are_fine(w: &World, raw: bool) -> bool
+    ensures fine { IsTrue result → HaveClassSupers w.now }
+    ensures full { IsTrue result → (raw ≡ false) → AreSupers w.now }
 {
     for c in 0..w.types.len() {
-        if !class_is_fine(w, c) {
+        if !class_is_fine(w, raw, c) {
             return false;
         }
     }
@@ -259,7 +262,7 @@ fn ordered(alloc: Global, types: Vec<TypeInfo>) -> Result<Ordered, Fail>
     ensures { IfOk result (λ r. (w : World) → r ≡ answer.Sound w → IsSound w) }
 {
     let w = world(alloc, types, Vec::new(alloc));
-    if w.types.len() > 1000 || !are_fine(&w) {
+    if w.types.len() > 1000 || !are_fine(&w, false) {
         return Err("a wrong supertype".into());
     }
     Ok(with_order(alloc, w)?)
@@ -686,5 +689,97 @@ fn no_order_where_a_class_is_below_two_parameterizations(rt: HostRuntime) -> Res
     )?;
     types.push(generic(alloc, 0, two))?;
     assert!(rt; matches!(ordered(alloc, types)?, Ordered::BelowTwo(15)));
+    Ok(())
+}
+
+/// Worlds whose order may be broken, each with its first class below two parameterizations of one class (JLS 8.1.5).
+const BROKEN: &[(&[(u32, &[Step])], Option<u32>)] = &[
+    (DIAMOND, None),
+    (TWO_STEPS_UP, Some(6)),
+    (OWN_PARAMETERIZATION, Some(3)),
+    (GROWING, Some(1)),
+    (RAW, None),
+    (IN_A_CIRCLE, None),
+    (FIRST_OF_TWO, Some(2)),
+];
+
+/// Object, `I<T>`, `J<T> extends I<T>`, `K<T> extends I<T>` and `C extends J<Object>, K<Object>`.
+const DIAMOND: &[(u32, &[Step])] = &[
+    (0, &[]),
+    (1, &[]),
+    (1, &[Step::Var(0), Step::One(1)]),
+    (1, &[Step::Var(0), Step::One(1)]),
+    (
+        0,
+        &[Step::Bare(0), Step::One(2), Step::Bare(0), Step::One(3)],
+    ),
+];
+
+/// Object, `I<T>`, `J<T> extends I<T>`, `K<T> extends I<T>`, `A extends J<Object>`, `B extends K<A>` and `C extends A, B`.
+const TWO_STEPS_UP: &[(u32, &[Step])] = &[
+    (0, &[]),
+    (1, &[]),
+    (1, &[Step::Var(0), Step::One(1)]),
+    (1, &[Step::Var(0), Step::One(1)]),
+    (0, &[Step::Bare(0), Step::One(2)]),
+    (0, &[Step::Bare(4), Step::One(3)]),
+    (0, &[Step::Bare(4), Step::Bare(5)]),
+];
+
+/// Object, `S`, `B extends A<S>`, which is below `A<S>` alone, and `A<T> extends A<S>`.
+const OWN_PARAMETERIZATION: &[(u32, &[Step])] = &[
+    (0, &[]),
+    (0, &[]),
+    (0, &[Step::Bare(1), Step::One(3)]),
+    (1, &[Step::Bare(1), Step::One(3)]),
+];
+
+/// Object and `A<T> extends A<A<T>>`.
+const GROWING: &[(u32, &[Step])] = &[(0, &[]), (1, &[Step::Var(0), Step::One(1), Step::One(1)])];
+
+/// Object, `I<T>`, `R extends I`, `D<T> extends I<T>` and `C extends R, D, I<Object>`.
+const RAW: &[(u32, &[Step])] = &[
+    (0, &[]),
+    (1, &[]),
+    (0, &[Step::Bare(1)]),
+    (1, &[Step::Var(0), Step::One(1)]),
+    (
+        0,
+        &[Step::Bare(2), Step::Bare(3), Step::Bare(0), Step::One(1)],
+    ),
+];
+
+/// Object, `A<T> extends B<T>` and `B<T> extends A<T>`.
+const IN_A_CIRCLE: &[(u32, &[Step])] = &[
+    (0, &[]),
+    (1, &[Step::Var(0), Step::One(2)]),
+    (1, &[Step::Var(0), Step::One(1)]),
+];
+
+/// Object, `I<T>`, `A extends I<Object>, I<A>` and `P<S, T> extends P<T, S>`.
+const FIRST_OF_TWO: &[(u32, &[Step])] = &[
+    (0, &[]),
+    (1, &[]),
+    (
+        0,
+        &[Step::Bare(0), Step::One(1), Step::Bare(2), Step::One(1)],
+    ),
+    (2, &[Step::Var(1), Step::Var(0), Step::Two(3)]),
+];
+
+fn first_of(alloc: Global, classes: &[(u32, &[Step])]) -> Result<Option<u32>, Fail> {
+    let w = world(alloc, declared(alloc, classes)?, Vec::new(alloc));
+    if w.types.len() > 1000 || !are_fine(&w, true) {
+        return Err("a wrong supertype".into());
+    }
+    Ok(first_below_two(alloc, &w)?)
+}
+
+#[test]
+fn the_first_class_below_two_is_found_in_a_broken_world(rt: HostRuntime) -> Result<(), Fail> {
+    let alloc = rt.alloc();
+    for (classes, first) in BROKEN {
+        assert_eq!(rt; first_of(alloc, classes)?, *first);
+    }
     Ok(())
 }

@@ -65,11 +65,11 @@ generic_decides generic vars (head.Prim p) = (λ e. absurd (cc e), λ f. absurd 
 generic_decides generic vars (head.Path []) = (λ e. absurd (cc e), λ f. absurd (let e = f.1 in cc e))
 generic_decides generic vars (head.Path (n ∷ m ∷ names)) = (λ e. absurd (cc e), λ f. absurd (let e = f.1 in cc e))
 generic_decides generic vars (head.Path (n ∷ [])) =
-    Decides-like _ (λ h. (n, refl, h.0, h.1)) (λ h. from h.0 h.1 h.2 h.3)
-    (Decides-and (not (list_any (λ v. nat_eq v.0 n.0) vars)) (generic n) (Decides-not _ (vars_decide n vars)) (truth (generic n)))
+    Decides-like _ (λ h. (n, refl, h.1, h.0)) (λ h. from h.0 h.1 h.2 h.3)
+    (Decides-and (generic n) (not (list_any (λ v. nat_eq v.0 n.0) vars)) (truth (generic n)) (Decides-not _ (vars_decide n vars)))
   where
-    from : (m : Name) → head.Path (n ∷ []) ≡ head.Path (m ∷ []) → (Contains vars m → ⊥) → generic m ≡ true → (Contains vars n → ⊥) × (generic n ≡ true)
-    from m e free is = subst (λ (x : Name). (Contains vars x → ⊥) × (generic x ≡ true)) (cc e) (free, is)
+    from : (m : Name) → head.Path (n ∷ []) ≡ head.Path (m ∷ []) → (Contains vars m → ⊥) → generic m ≡ true → (generic n ≡ true) × (Contains vars n → ⊥)
+    from m e free is = subst (λ (x : Name). (generic x ≡ true) × (Contains vars x → ⊥)) (cc e) (is, free)
 
 pub nested_decides : (generic : Name → Bool) (vars : List Name) (x : t.TypeExpr) → Decides (is_nested generic vars x) ((0 < dims_of x) ⊎ NamesGeneric generic vars (head_of x))
 nested_decides generic vars x =

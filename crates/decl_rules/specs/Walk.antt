@@ -34,7 +34,7 @@ element is x a = noted a 17 (node_of x) (is && has_args x)
 
 -- the head is the simple name of a generic type, by the names that mean one, and the type parameters around
 abbrev pub names_generic : (generic : Name → Bool) → (vars : List Name) → Head → Bool
-names_generic generic vars (head.Path (n ∷ [])) = not (list_any (λ v. nat_eq v.0 n.0) vars) && generic n
+names_generic generic vars (head.Path (n ∷ [])) = generic n && not (list_any (λ v. nat_eq v.0 n.0) vars)
 names_generic generic vars _ = false
 
 -- the test of S12 on an argument

@@ -1,6 +1,6 @@
 //! Which names mean generic types (S12).
 
-ghost use Rattle.std.specs.Prelude.{◌≡◌, ◌||◌, false, nat_eq, OnOk};
+ghost use Rattle.std.specs.Prelude.{◌≡◌, ◌||◌, false, nat_eq, OnOk, OnErr};
 ghost use Rattle.decl_rules.specs.Generic.{is_generic};
 ghost use Rattle.decl_rules.specs.Walk as spec;
 
@@ -25,9 +25,10 @@ impl GenericNames {
         }
     }
 
-    /// One more name.
+    /// One more name. Where memory runs out, the names are those of before.
     pub fn add(&mut self, name: Name) -> Result<(), NoMemory>
-        ensures { OnOk result ((n : Name) → is_generic self.new n ≡ (nat_eq n.0 name.0 || is_generic self.old n)) }
+        ensures unchanged { OnErr result ((n : Name) → is_generic self.new n ≡ is_generic self.old n) }
+        ensures added { OnOk result ((n : Name) → is_generic self.new n ≡ (nat_eq n.0 name.0 || is_generic self.old n)) }
     {
         self.names.insert(name.0)?;
         Ok(())
@@ -56,7 +57,7 @@ impl Generics<'_> {
         match head {
             Head::Prim(_) => false,
             Head::Path(names) => match names.as_slice() {
-                [name] => !self.vars.contains(name) && self.names.has(*name),
+                [name] => self.names.has(*name) && !self.vars.contains(name),
                 _ => false,
             },
         }

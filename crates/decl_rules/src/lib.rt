@@ -1,4 +1,4 @@
-//! The rules on declarations that need no types of names.
+//! The rules on declarations that need no types of names, but for which names mean generic types (S12).
 #![tactic(auto)]
 
 mod counting;

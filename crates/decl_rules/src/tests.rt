@@ -267,25 +267,29 @@ fn method(
     }
 }
 
+fn field(mods: Items<Mod>, ty: TypeExpr, vars: Items<Var>) -> Member {
+    Member::Field {
+        node: node(6),
+        mods,
+        ty,
+        vars,
+    }
+}
+
+fn taken(alloc: Global, parts: &[Part], dims: u32) -> Result<Items<Param>, NoMemory> {
+    let ty = written(alloc, parts)?;
+    Ok(Items::one(alloc, param(ty, dims))?)
+}
+
 fn member(alloc: Global, mods: Items<Mod>, given: Given) -> Result<Member, NoMemory> {
     match given {
         Given::Fields(names, with) => {
             let vars = vars(alloc, names, with)?;
-            Ok(Member::Field {
-                node: node(6),
-                mods,
-                ty: int(alloc),
-                vars,
-            })
+            Ok(field(mods, int(alloc), vars))
         }
         Given::Field(parts) => {
             let ty = written(alloc, parts)?;
-            Ok(Member::Field {
-                node: node(6),
-                mods,
-                ty,
-                vars: Items::new(alloc),
-            })
+            Ok(field(mods, ty, Items::new(alloc)))
         }
         Given::Abstract(name) => Ok(method(alloc, mods, false, name, Items::new(alloc), None)),
         Given::Method(name) => {
@@ -297,8 +301,7 @@ fn member(alloc: Global, mods: Items<Mod>, given: Given) -> Result<Member, NoMem
             Ok(method(alloc, mods, true, name, Items::new(alloc), body))
         }
         Given::Taking(name, parts, dims) => {
-            let ty = written(alloc, parts)?;
-            let params = Items::one(alloc, param(ty, dims))?;
+            let params = taken(alloc, parts, dims)?;
             let body = Some(empty(alloc));
             Ok(method(alloc, mods, false, name, params, body))
         }
@@ -361,17 +364,31 @@ fn holds(
     )
 }
 
-// The place of the first case whose answers are others.
-fn first_wrong(alloc: Global, cases: &[Case]) -> Result<Option<usize>, NoMemory> {
-    let names = names(alloc)?;
+fn generics(alloc: Global) -> Result<GenericNames, NoMemory> {
     let mut generics = GenericNames::new(alloc);
     generics.add(LIST)?;
+    Ok(generics)
+}
+
+fn first_among(
+    alloc: Global,
+    cases: &[Case],
+    names: &Names,
+    generics: &GenericNames,
+) -> Result<Option<usize>, NoMemory> {
     for (i, case) in cases.iter().enumerate() {
-        if !holds(alloc, case, &names, &generics)? {
+        if !holds(alloc, case, names, generics)? {
             return Ok(Some(i));
         }
     }
     Ok(None)
+}
+
+// The place of the first case whose answers are others.
+fn first_wrong(alloc: Global, cases: &[Case]) -> Result<Option<usize>, NoMemory> {
+    let names = names(alloc)?;
+    let generics = generics(alloc)?;
+    first_among(alloc, cases, &names, &generics)
 }
 
 // Parts at these nodes.
@@ -604,14 +621,18 @@ fn declarations(rt: HostRuntime) -> Result<(), Fail> {
     Ok(())
 }
 
-#[test]
-fn one_type_and_one_method(rt: HostRuntime) -> Result<(), Fail> {
-    let unit = file(rt.alloc(), &BASE)?;
+fn after_one(alloc: Global) -> Result<Counts, NoMemory> {
+    let unit = file(alloc, &BASE)?;
     let before = Counts {
         types: 4095,
         methods: 7,
     };
-    let after = count(before, &unit);
+    Ok(count(before, &unit))
+}
+
+#[test]
+fn one_type_and_one_method(rt: HostRuntime) -> Result<(), Fail> {
+    let after = after_one(rt.alloc())?;
     assert!(rt; after.types == 4096 && after.methods == 8);
     Ok(())
 }

@@ -5,16 +5,9 @@ use Rattle.std.proofs.lemmas.Bool.Decides.{nat_tests}
 use Rattle.class_world.specs.declared.world.TypeInfo.{TypeInfo}
 use Rattle.class_world.specs.declared.world.JavaType.{JavaType}
 use Rattle.class_world.specs.declared.world.JavaType.TheVariants as ty
+use Rattle.decl_table.specs.Bases.{IsBase, AreBases}
 use Rattle.built_in_types.specs.declared.words.Words.{Words}
 use Rattle.built_in_types.specs.BuiltIns.{type_info, types_from, superclasses, built_in_types}
-
--- a type without type parameters, whose supertypes are of lower numbers and without arguments
-abbrev pub IsBase : ℕ → TypeInfo → Type 0
-IsBase c info = (info.params ≡ 0) × ((k : ℕ) (d : JavaType) → slice_get info.supers k ≡ Some d → (p : ℕ) × (p < c) × (d ≡ ty.Class p []))
-
-pub record AreBases (types : List TypeInfo) : Type 0 where
-  pub count : length types ≡ 16
-  pub each : (c : ℕ) (info : TypeInfo) → slice_get types c ≡ Some info → IsBase c info
 
 is_low : ℕ → Option ℕ → Bool
 is_low c None = true

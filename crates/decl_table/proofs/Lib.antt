@@ -16,3 +16,6 @@ pub mod GenericSeen
 pub mod FileLists
 pub mod Meanings
 pub mod Lows
+pub mod Clashing
+pub mod Rises
+pub mod Judging

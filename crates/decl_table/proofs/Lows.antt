@@ -10,7 +10,7 @@ use Rattle.class_world.specs.Subtypes.{Subtype, same, through, declared, object,
 use Rattle.class_world.specs.Ordered.{IsClassBelowTwo}
 use Rattle.class_world.proofs.Forms.{null_kind, class_kind, array_kind, primitive_kind, same_class}
 use Rattle.class_world.proofs.Substs.{put_class}
-use Rattle.decl_table.proofs.Bases.{AreBases, IsBase}
+use Rattle.decl_table.specs.Bases.{AreBases, IsBase}
 use Rattle.decl_table.proofs.Fitting.{get_there}
 use Rattle.decl_table.proofs.Listed.{get_front}
 

@@ -14,7 +14,7 @@ use Rattle.type_names.specs.Known.{KnownType, File, built_in_type, numbers_below
 use Rattle.type_names.specs.Sees.{is_imported, is_beside, is_on_demand, first_seen, meant}
 use Rattle.type_headers.specs.Declared.{Declaration, declarations_from, declarations, header, headers}
 use Rattle.decl_table.specs.Program.{NamesGenerics}
-use Rattle.decl_table.proofs.Bases.{AreBases}
+use Rattle.decl_table.specs.Bases.{AreBases}
 use Rattle.decl_table.proofs.Fitting.{or_parts}
 use Rattle.decl_table.proofs.Listed.{get_either, get_mapped}
 

@@ -1,5 +1,5 @@
 -- Where no supertype is wrong, the supertypes that the world declares are in order.
-use Rattle.std.proofs.Common.{◌≡◌, ℕ, zero, suc, ◌+◌, ◌<◌, Bool, true, false, List, [], ◌∷◌, ◌++◌, map, length, Option, Some, None, ◌⊎◌, inl, inr, refl, sym, ap, ◌∙◌, subst, arith}
+use Rattle.std.proofs.Common.{◌≡◌, ℕ, zero, suc, ◌+◌, ◌<◌, Bool, true, false, ◌&&◌, List, [], ◌∷◌, ◌++◌, map, length, Option, Some, None, ◌⊎◌, inl, inr, refl, sym, ap, ◌∙◌, subst, arith}
 use Rattle.std.specs.Prelude.{slice_get, if◌then◌else◌, Contains}
 use Rattle.std.specs.Option.{option_map}
 use Rattle.std.proofs.lemmas.Option.{slice_get_within}
@@ -13,7 +13,7 @@ use Rattle.class_world.specs.declared.world.TypeInfo.{TypeInfo}
 use Rattle.class_world.specs.declared.world.JavaType.{JavaType}
 use Rattle.class_world.specs.declared.world.JavaType.TheVariants as ty
 use Rattle.class_world.specs.Types.{IsTypeOver, a_class}
-use Rattle.class_world.specs.Sound.{IsSuper, AreSupers}
+use Rattle.class_world.specs.Sound.{IsSuper, AreSupers, IsClassOver, HaveClassSupers}
 use Rattle.class_world.specs.Subclasses.{IsDirectSuper}
 use Rattle.class_world.proofs.Forms.{class_kind, array_kind, same_class}
 use Rattle.class_world.proofs.Orders.{class_parts}
@@ -27,9 +27,9 @@ use Rattle.written_types.proofs.Places.{variable_not}
 use Rattle.type_headers.specs.Declared.{Declaration, declarations, headers, place_of, written_supers}
 use Rattle.built_in_types.specs.declared.types.BuiltIns.{BuiltIns}
 use Rattle.declared_types.specs.Rules.{wants_class, DeclaredTypeBreaches}
-use Rattle.program_world.specs.ProgramWorld.{is_super, supers_of, place_among, world_of}
-use Rattle.decl_table.proofs.Bases.{AreBases, IsBase}
-use Rattle.decl_table.proofs.Wholes.{IsWhole, Fits, said_parts, joined_parts, type_over}
+use Rattle.program_world.specs.ProgramWorld.{argument, is_class, is_super, supers_of, place_among, world_of}
+use Rattle.decl_table.specs.Bases.{AreBases, IsBase}
+use Rattle.decl_table.proofs.Wholes.{Fits, said_parts, joined_parts, over_class, type_over}
 use Rattle.decl_table.proofs.Fitting.{place_fits, get_there}
 use Rattle.decl_table.proofs.Listed.{get_front, contains_at}
 use Rattle.decl_table.proofs.Supers.{IsInfoOf, type_at, same_params, IsWrittenSuper, super_at}
@@ -78,8 +78,18 @@ map_some : {A B : Type 0} (f : A → B) (o : Option A) (y : B) → option_map f 
 map_some f None y e = absurd (cc e)
 map_some f (Some x) y e = (x, refl, cc e)
 
-abbrev Whole : Type 0
-Whole = (s : JavaType) → is_super s ≡ true → (g : ℕ) × (xs : List JavaType) × (s ≡ ty.Class g xs) × IsWhole s
+both : (a b : Bool) → a && b ≡ true → (a ≡ true) × (b ≡ true)
+both true b e = (refl, e)
+both false b e = absurd (cc e)
+
+-- a written supertype is a class type over the type parameters of its class
+pub written_over : (built : BuiltIns) (j : JavaNames) (fs : List File) → AreBases built.types → (x : Declaration) (s : JavaType) → IsWrittenSuper (place_among built j fs x) x.decl s
+    → IsClassOver (world_of built j fs) (length x.decl.params) s
+written_over built j fs bases x s (i, y, there, says, super) =
+    let fits = place_fits j built.types fs (world_of built j fs) x bases.count (same_params built j fs) in
+    let parts = both (is_class s) (argument s).whole super in
+    let over = (type_over (place_among built j fs x) (world_of built j fs) (length x.decl.params) fits y s says parts.1).0 in
+    (over, over_class (world_of built j fs) (length x.decl.params) s over parts.0)
 
 bare_super : (w : World) (n g : ℕ) (info : TypeInfo) → slice_get w.types g ≡ Some info → info.params ≡ 0 → IsSuper w n (ty.Class g [])
 bare_super w n g info at none = (a_class at (inl refl) (λ k a e. absurd (cc e)) (λ k a e. absurd (cc e)), (g, [], info, refl, at, sym none))
@@ -91,15 +101,16 @@ one_there o x y e f = cc (e, f)
 abbrev AreRight : BuiltIns → JavaNames → List File → Type 0
 AreRight built j fs = (b : Breach) → DeclaredTypeBreaches j fs (headers built.types fs) b → ⊥
 
-written_super : (built : BuiltIns) (j : JavaNames) (fs : List File) → Whole → AreBases built.types → AreRight built j fs
+written_super : (built : BuiltIns) (j : JavaNames) (fs : List File) → AreBases built.types → AreRight built j fs
     → (k : ℕ) (x : Declaration) → slice_get (declarations fs) k ≡ Some x → (s : JavaType) → IsWrittenSuper (place_among built j fs x) x.decl s
     → IsSuper (world_of built j fs) (length x.decl.params) s
-written_super built j fs whole bases right k x at s (i, y, there, says, super) =
+written_super built j fs bases right k x at s (i, y, there, says, super) =
     let p = place_among built j fs x in
     let w = world_of built j fs in
     let fits = place_fits j built.types fs w x bases.count (same_params built j fs) in
-    let class = whole s super in
-    let over = (type_over p w (length x.decl.params) fits y s says class.3).0 in
+    let over_class = written_over built j fs bases x s (i, y, there, says, super) in
+    let over = over_class.0 in
+    let class = over_class.1 in
     let parts = class_parts w (length x.decl.params) s class.0 class.1 over class.2 in
     let written = class_written p y class.0 class.1 (says ∙ ap Some class.2) in
     let named = written.0 in
@@ -117,50 +128,65 @@ written_super built j fs whole bases right k x at s (i, y, there, says, super) =
     zero_if zero not = refl
     zero_if (suc n) not = absurd (not (omega arith))
 
-pub supers_in_order : (built : BuiltIns) (j : JavaNames) (fs : List File) → Whole → AreBases built.types → AreRight built j fs → AreSupers (world_of built j fs)
-supers_in_order built j fs whole bases right = record { top = top; supers = supers }
+-- ---- all declared supertypes
+
+-- what holds of Object in each class, of each built-in type without arguments, and of each written supertype, holds of each declared supertype
+each_super : (P : ℕ → JavaType → Type 0) (built : BuiltIns) (j : JavaNames) (fs : List File) → AreBases built.types
+    → ((n g : ℕ) (info : TypeInfo) → slice_get (world_of built j fs).types g ≡ Some info → info.params ≡ 0 → P n (ty.Class g []))
+    → ((k : ℕ) (x : Declaration) → slice_get (declarations fs) k ≡ Some x → (s : JavaType) → IsWrittenSuper (place_among built j fs x) x.decl s → P (length x.decl.params) s)
+    → (c : ℕ) (info : TypeInfo) (d : JavaType) → slice_get (world_of built j fs).types c ≡ Some info → IsDirectSuper (world_of built j fs) c d → P info.params d
+each_super P built j fs bases bare written c info d at (own, there, k, e) =
+    elim (type_at built j fs c info bases.count at) [
+      inl h ↦ base h
+    | inr h ↦ declared h.0 h.1 h.3 h.4
+    ]
   where
-    w : World
-    w = world_of built j fs
+    same : slice_get info.supers k ≡ Some d
+    same = sym (ap (λ (v : TypeInfo). slice_get v.supers k) (one_there (slice_get (world_of built j fs).types c) own info there at)) ∙ e
 
-    none_above : (info : TypeInfo) → IsBase 0 info → (supers : List JavaType) → info.supers ≡ supers → supers ≡ []
-    none_above info base [] e = refl
-    none_above info base (d ∷ ds) e = absurd (let low = base.1 0 d (ap (λ xs. slice_get xs 0) e) in omega (arith, low.1))
+    base : slice_get built.types c ≡ Some info → P info.params d
+    base h =
+        let low = (bases.each c info h).1 k d same in
+        let within : c < length built.types = slice_get_within built.types c info h in
+        let at = get_there built.types low.0 (omega (arith, low.1, within)) in
+        subst (P info.params) (sym low.2) (bare info.params low.0 at.0 (get_front built.types _ low.0 at.0 at.1) (bases.each low.0 at.0 at.1).0)
 
-    top : (info : TypeInfo) → slice_get (world_of built j fs).types 0 ≡ Some info → (info.params ≡ 0) × (info.supers ≡ [])
-    top info e = elim (type_at built j fs 0 info bases.count e) [
-        inl h ↦ (let base = bases.each 0 info h in (base.0, none_above info base info.supers refl))
-      | inr h ↦ absurd (omega (arith, h.2))
-      ]
+    object : (n : ℕ) → P n (ty.Class 0 [])
+    object n =
+        let at = get_there built.types 0 (omega (arith, bases.count)) in
+        bare n 0 at.0 (get_front built.types _ 0 at.0 at.1) (bases.each 0 at.0 at.1).0
 
-    object_super : (n : ℕ) → IsSuper (world_of built j fs) n (ty.Class 0 [])
-    object_super n =
-        let there = get_there built.types 0 (omega (arith, bases.count)) in
-        bare_super (world_of built j fs) n 0 there.0 (get_front built.types _ 0 there.0 there.1) (bases.each 0 there.0 there.1).0
-
-    built_super : (c : ℕ) (info : TypeInfo) (n k : ℕ) (d : JavaType) → slice_get built.types c ≡ Some info → slice_get info.supers k ≡ Some d → IsSuper (world_of built j fs) n d
-    built_super c info n k d at e =
-        let low = (bases.each c info at).1 k d e in
-        let within : c < length built.types = slice_get_within built.types c info at in
-        let there = get_there built.types low.0 (omega (arith, low.1, within)) in
-        subst (IsSuper (world_of built j fs) n) (sym low.2)
-        (bare_super (world_of built j fs) n low.0 there.0 (get_front built.types _ low.0 there.0 there.1) (bases.each low.0 there.0 there.1).0)
-
-    declared_super : (k : ℕ) (x : Declaration) (info : TypeInfo) (i : ℕ) (d : JavaType) → slice_get (declarations fs) k ≡ Some x → IsInfoOf (place_among built j fs) x info
-        → slice_get info.supers i ≡ Some d → IsSuper (world_of built j fs) info.params d
-    declared_super k x info i d at is e =
-        subst (λ n. IsSuper (world_of built j fs) n d) (sym (ap (λ (i : TypeInfo). i.params) is.3))
-        (elim (super_at (place_among built j fs x) x.decl i d (sym (ap (λ (v : TypeInfo). slice_get v.supers i) is.3) ∙ e)) [
-          inl object ↦ subst (IsSuper (world_of built j fs) (length x.decl.params)) (sym object) (object_super (length x.decl.params))
-        | inr written ↦ written_super built j fs whole bases right k x at d written
+    declared : (m : ℕ) (x : Declaration) → slice_get (declarations fs) m ≡ Some x → IsInfoOf (place_among built j fs) x info → P info.params d
+    declared m x there is =
+        subst (λ n. P n d) (sym (ap (λ (i : TypeInfo). i.params) is.3))
+        (elim (super_at (place_among built j fs x) x.decl k d (sym (ap (λ (v : TypeInfo). slice_get v.supers k) is.3) ∙ same)) [
+          inl top ↦ subst (P (length x.decl.params)) (sym top) (object (length x.decl.params))
+        | inr text ↦ written m x there d text
         ])
 
-    supers : (c : ℕ) (info : TypeInfo) (d : JavaType) → slice_get (world_of built j fs).types c ≡ Some info → IsDirectSuper (world_of built j fs) c d
-        → IsSuper (world_of built j fs) info.params d
-    supers c info d at (own, there, k, e) =
-        let same : own ≡ info = one_there _ own info there at in
-        let e : slice_get info.supers k ≡ Some d = sym (ap (λ (v : TypeInfo). slice_get v.supers k) same) ∙ e in
-        elim (type_at built j fs c info bases.count at) [
-          inl h ↦ built_super c info info.params k d h e
-        | inr h ↦ declared_super h.0 h.1 info k d h.3 h.4 e
-        ]
+top_bare : (built : BuiltIns) (j : JavaNames) (fs : List File) → AreBases built.types → (info : TypeInfo) → slice_get (world_of built j fs).types 0 ≡ Some info
+    → (info.params ≡ 0) × (info.supers ≡ [])
+top_bare built j fs bases info e =
+    elim (type_at built j fs 0 info bases.count e) [
+      inl h ↦ (let base = bases.each 0 info h in (base.0, none_above base info.supers refl))
+    | inr h ↦ absurd (omega (arith, h.2))
+    ]
+  where
+    none_above : IsBase 0 info → (supers : List JavaType) → info.supers ≡ supers → supers ≡ []
+    none_above base [] e = refl
+    none_above base (d ∷ ds) e = absurd (let low = base.1 0 d (ap (λ xs. slice_get xs 0) e) in omega (arith, low.1))
+
+-- each declared supertype is a class type
+pub class_supers : (built : BuiltIns) (j : JavaNames) (fs : List File) → AreBases built.types → HaveClassSupers (world_of built j fs)
+class_supers built j fs bases = record {
+  top = top_bare built j fs bases;
+  supers = each_super (IsClassOver (world_of built j fs)) built j fs bases (λ n g info at none. (a_class at (inl refl) (λ k a e. absurd (cc e)) (λ k a e. absurd (cc e)), (g, [], refl)))
+      (λ k x at s written. written_over built j fs bases x s written);
+}
+
+-- and in order, where none is wrong
+pub supers_in_order : (built : BuiltIns) (j : JavaNames) (fs : List File) → AreBases built.types → AreRight built j fs → AreSupers (world_of built j fs)
+supers_in_order built j fs bases right = record {
+  top = top_bare built j fs bases;
+  supers = each_super (IsSuper (world_of built j fs)) built j fs bases (bare_super (world_of built j fs)) (written_super built j fs bases right);
+}

@@ -1,5 +1,5 @@
 -- What the types of the world declare as supertypes.
-use Rattle.std.proofs.Common.{◌≡◌, ℕ, zero, suc, ◌+◌, ◌<◌, Bool, true, false, List, [], ◌∷◌, ◌++◌, map, length, Option, Some, None, ◌⊎◌, inl, inr, refl, sym, ap, ◌∙◌, subst, arith}
+use Rattle.std.proofs.Common.{◌≡◌, ℕ, zero, suc, ◌+◌, ◌<◌, Bool, true, false, ◌&&◌, List, [], ◌∷◌, ◌++◌, map, length, Option, Some, None, ◌⊎◌, inl, inr, refl, sym, ap, ◌∙◌, subst, arith}
 use Rattle.std.specs.Prelude.{slice_get, filter, unwrap_or, option_and_then, if◌then◌else◌}
 use Rattle.std.specs.Option.{option_map}
 use Rattle.java_tree.specs.declared.tree.Name.{Name}
@@ -21,7 +21,7 @@ use Rattle.written_types.specs.Breaks.{head_of, args_of, NamesType}
 use Rattle.written_types.proofs.Places.{variable_not}
 use Rattle.type_headers.specs.Declared.{Declaration, declarations, header, headers, place_of, written_supers}
 use Rattle.built_in_types.specs.declared.types.BuiltIns.{BuiltIns}
-use Rattle.program_world.specs.ProgramWorld.{read, is_super, implied_super, supers_of, methods_of, fields_of, type_info, infos_from, place_among, world_of}
+use Rattle.program_world.specs.ProgramWorld.{read, class_form, argument, is_super, implied_super, supers_of, methods_of, fields_of, type_info, infos_from, place_among, world_of}
 use Rattle.decl_table.proofs.Wholes.{said_parts, joined_parts}
 use Rattle.decl_table.proofs.Fitting.{HaveParams}
 use Rattle.decl_table.proofs.Listed.{get_either, get_front, get_behind, get_mapped, get_filtered}
@@ -77,7 +77,7 @@ abbrev pub IsWrittenSuper : Place → TypeDecl → JavaType → Type 0
 IsWrittenSuper p d s = (i : ℕ) × (x : TypeExpr) × (slice_get (written_supers d) i ≡ Some x) × (type_of p x ≡ Some s) × (is_super s ≡ true)
 
 null_not : is_super ty.Null ≡ true → ⊥
-null_not e = cc (e, ty.outs-Null)
+null_not e = cc (sym e ∙ ap (λ L. class_form L && (argument ty.Null).whole) ty.outs-Null)
 
 read_some : (p : Place) (x : TypeExpr) (s : JavaType) → read p x ≡ s → is_super s ≡ true → type_of p x ≡ Some s
 read_some p x s is super = split (type_of p x) refl is

@@ -1,8 +1,8 @@
 -- A type that is written is one of the world, where the names have their types there.
-use Rattle.std.proofs.Common.{◌≡◌, ℕ, zero, suc, ◌+◌, ◌<◌, Bool, true, false, List, [], ◌∷◌, length, Option, Some, None, ◌⊎◌, inl, inr, refl, sym, ap, ◌∙◌, subst, arith}
+use Rattle.std.proofs.Common.{◌≡◌, ℕ, zero, suc, ◌+◌, ◌<◌, Bool, true, false, ◌&&◌, List, [], ◌∷◌, map, length, Option, Some, None, ◌⊎◌, inl, inr, refl, sym, ap, ◌∙◌, subst, arith}
 use Rattle.std.specs.Prelude.{slice_get, if◌then◌else◌, nat_eq, option_and_then}
 use Rattle.std.specs.Option.{option_map}
-use Rattle.std.specs.List.{position_from}
+use Rattle.std.specs.List.{position_from, list_all}
 use Rattle.std.proofs.lemmas.Bool.Decides.{nat_tests}
 use Rattle.java_tree.specs.declared.tree.Name.{Name}
 use Rattle.java_tree.specs.declared.tree.Head.{Head}
@@ -14,40 +14,60 @@ use Rattle.class_world.specs.declared.world.World.{World}
 use Rattle.class_world.specs.declared.world.TypeInfo.{TypeInfo}
 use Rattle.class_world.specs.declared.world.JavaType.{JavaType}
 use Rattle.class_world.specs.declared.world.JavaType.TheVariants as ty
-use Rattle.class_world.specs.Types.{IsReference, AreReferences, IsTypeOver, a_primitive, a_class, a_variable, an_array}
-use Rattle.class_world.proofs.Forms.{null_kind, class_kind, array_kind, same_element, same_class}
+use Rattle.class_world.specs.Types.{IsReference, of_class, of_variable, of_array, AreReferences, IsTypeOver, a_primitive, the_null, a_class, a_variable, an_array}
+use Rattle.class_world.proofs.Forms.{null_kind, class_kind, array_kind}
+use Rattle.program_world.specs.ProgramWorld.{Argument, passes, argument, class_form, is_class}
+use Rattle.program_world.proofs.Supers.{argument_primitive, argument_null, argument_class, argument_array}
 use Rattle.written_types.specs.Places.{Place}
 use Rattle.written_types.specs.Types.{arrays, variable, takes, named_type, head_type, joined, type_of, types_of}
-
--- arguments are reference types, at each depth
-pub data IsWhole : JavaType → Type 0 where
-  whole_class : (c : ℕ) (args : List JavaType) → AreReferences args → ((k : ℕ) (a : JavaType) → slice_get args k ≡ Some a → IsWhole a) → IsWhole (ty.Class c args)
-  whole_array : (element : JavaType) → IsWhole element → IsWhole (ty.Array element)
-  whole_variable : (k : ℕ) → IsWhole (ty.Var k)
-  whole_primitive : (p : Primitive) → IsWhole (ty.Prim p)
 
 -- the place's types are those of the world, and it has n type parameters
 pub record Fits (p : Place) (w : World) (n : ℕ) : Type 0 where
   pub known : (x : Name) (c : ℕ) → p.mean x ≡ Some c → (info : TypeInfo) × (slice_get w.types c ≡ Some info) × (p.params c ≡ Some info.params)
   pub vars : length p.vars ≡ n
 
+-- all arguments within the type are reference types
+abbrev pub IsWhole : JavaType → Type 0
+IsWhole t = (argument t).whole ≡ true
+
 abbrev AreWhole : List JavaType → Type 0
-AreWhole args = (k : ℕ) (a : JavaType) → slice_get args k ≡ Some a → IsWhole a
+AreWhole args = (k : ℕ) (a : JavaType) → slice_get args k ≡ Some a → ((argument a).reference ≡ true) × IsWhole a
 
 abbrev AreOver : World → ℕ → List JavaType → Type 0
 AreOver w n args = (k : ℕ) (a : JavaType) → slice_get args k ≡ Some a → IsTypeOver w n a
 
-array_whole : (t : JavaType) → IsWhole t → (x : JavaType) → t ≡ ty.Array x → IsWhole x
-array_whole t (whole_class c args refs parts) x e = absurd (cc (class_kind c args, array_kind x, e))
-array_whole t (whole_array y h) x e = subst IsWhole (same_element y x e) h
-array_whole t (whole_variable k) x e = absurd (cc e)
-array_whole t (whole_primitive p) x e = absurd (cc e)
+array_whole : (x : JavaType) → IsWhole (ty.Array x) → IsWhole x
+array_whole x h = sym (ap (λ (a : Argument). a.whole) (argument_array x)) ∙ h
 
-class_whole : (t : JavaType) → IsWhole t → (c : ℕ) (args : List JavaType) → t ≡ ty.Class c args → AreReferences args × AreWhole args
-class_whole t (whole_class d xs refs parts) c args e = subst (λ ys. AreReferences ys × AreWhole ys) (same_class d c xs args e).1 (refs, parts)
-class_whole t (whole_array y h) c args e = absurd (cc (array_kind y, class_kind c args, e))
-class_whole t (whole_variable k) c args e = absurd (cc e)
-class_whole t (whole_primitive p) c args e = absurd (cc e)
+both : (a b : Bool) → a && b ≡ true → (a ≡ true) × (b ≡ true)
+both true b e = (refl, e)
+both false b e = absurd (cc e)
+
+all_pass : (xs : List JavaType) → list_all passes (map argument xs) ≡ true → AreWhole xs
+all_pass [] e k a at = absurd (cc at)
+all_pass (x ∷ xs) e zero a at =
+    let here = both (passes (argument x)) (list_all passes (map argument xs)) e in
+    subst (λ y. ((argument y).reference ≡ true) × IsWhole y) (cc at) (both (argument x).reference (argument x).whole here.0)
+all_pass (x ∷ xs) e (suc k) a at = all_pass xs (both (passes (argument x)) (list_all passes (map argument xs)) e).1 k a at
+
+class_whole : (t : JavaType) → IsWhole t → (c : ℕ) (args : List JavaType) → t ≡ ty.Class c args → AreWhole args
+class_whole t h c args e = all_pass args (sym (ap (λ (x : JavaType). (argument x).whole) e ∙ ap (λ (a : Argument). a.whole) (argument_class c args)) ∙ h)
+
+-- a type of the world that is a reference type as an argument
+over_refers : (w : World) (n : ℕ) (t : JavaType) → IsTypeOver w n t → (argument t).reference ≡ true → IsReference t
+over_refers w n t (a_primitive p) e = absurd (cc (sym e ∙ ap (λ (a : Argument). a.reference) (argument_primitive p)))
+over_refers w n t the_null e = absurd (cc (sym e ∙ ap (λ (a : Argument). a.reference) argument_null))
+over_refers w n t (a_class {c = c} {args = args} at counts refs parts) e = of_class c args
+over_refers w n t (a_variable {k = k} lt) e = of_variable k
+over_refers w n t (an_array {element = x} some part) e = of_array x
+
+-- one that is a class type
+pub over_class : (w : World) (n : ℕ) (t : JavaType) → IsTypeOver w n t → is_class t ≡ true → (c : ℕ) × (args : List JavaType) × (t ≡ ty.Class c args)
+over_class w n t (a_primitive p) e = absurd (cc (sym e ∙ ap class_form (ty.outs-Prim p)))
+over_class w n t the_null e = absurd (cc (sym e ∙ ap class_form ty.outs-Null))
+over_class w n t (a_class {c = c} {args = args} at counts refs parts) e = (c, args, refl)
+over_class w n t (a_variable {k = k} lt) e = absurd (cc (sym e ∙ ap class_form (ty.outs-Var k)))
+over_class w n t (an_array {element = x} some part) e = absurd (cc (sym e ∙ ap class_form (ty.outs-Array x)))
 
 -- ---- the parts of a type that was read
 
@@ -74,7 +94,7 @@ no_null t = t ≡ ty.Null → ⊥
 
 whole_inside : (d : ℕ) (z : JavaType) → IsWhole (arrays d z) → IsWhole z
 whole_inside zero z h = h
-whole_inside (suc d) z h = whole_inside d z (array_whole (ty.Array (arrays d z)) h (arrays d z) refl)
+whole_inside (suc d) z h = whole_inside d z (array_whole (arrays d z) h)
 
 arrays_over : (w : World) (n : ℕ) (d : ℕ) (z : JavaType) → IsTypeOver w n z → no_null z → IsTypeOver w n (arrays d z) × no_null (arrays d z)
 arrays_over w n zero z over not = (over, not)
@@ -118,7 +138,7 @@ named_over p w n fits x args None (Some c) z var mean e whole over = split (take
     split false fit e = absurd (cc e)
     split true fit e =
         let is : ty.Class c args ≡ z = cc e in
-        (subst (IsTypeOver w n) is (class_over p w n fits x c args mean fit (class_whole z whole c args (sym is)).0 over), λ null. cc (class_kind c args, null_kind, is ∙ null))
+        (subst (IsTypeOver w n) is (class_over p w n fits x c args mean fit (λ k a at. over_refers w n a (over k a at) (class_whole z whole c args (sym is) k a at).0) over), λ null. cc (class_kind c args, null_kind, is ∙ null))
 
 head_over : (p : Place) (w : World) (n : ℕ) → Fits p w n → (h : Head) (args : List JavaType) (z : JavaType) → head_type p h args ≡ Some z → IsWhole z → AreOver w n args
     → IsTypeOver w n z × no_null z
@@ -137,7 +157,7 @@ named_args p args None (Some c) z e whole = split (takes (p.params c) (length ar
   where
     split : (b : Bool) → (if b then Some (ty.Class c args) else None) ≡ Some z → AreWhole args
     split false e = absurd (cc e)
-    split true e = let is : ty.Class c args ≡ z = cc e in (class_whole z whole c args (sym is)).1
+    split true e = let is : ty.Class c args ≡ z = cc e in class_whole z whole c args (sym is)
 
 head_args : (p : Place) (h : Head) (args : List JavaType) (z : JavaType) → head_type p h args ≡ Some z → IsWhole z → AreWhole args
 head_args p (head.Prim q) [] z e whole = λ k a at. cc at
@@ -165,4 +185,4 @@ mutual
   types_over p w n fits (t.AndType x xs) ys e whole =
       let parts = joined_parts (type_of p x) (types_of p xs) ys e in
       let all : AreWhole (parts.0 ∷ parts.1) = subst AreWhole parts.4 whole in
-      subst (AreOver w n) (sym parts.4) (each parts.0 parts.1 (type_over p w n fits x parts.0 parts.2 (all 0 parts.0 refl)).0 (types_over p w n fits xs parts.1 parts.3 (λ k a at. all (suc k) a at)))
+      subst (AreOver w n) (sym parts.4) (each parts.0 parts.1 (type_over p w n fits x parts.0 parts.2 (all 0 parts.0 refl).1).0 (types_over p w n fits xs parts.1 parts.3 (λ k a at. all (suc k) a at)))

@@ -6,7 +6,7 @@ use Rattle.class_world.specs.Tables.{Indexes}
 use Rattle.class_world.specs.Names.{ListsMethods}
 use Rattle.java_typing.specs.WorldOf.{world_of}
 use Rattle.java_typing.specs.Declarations.{DeclarationsHold}
-use Rattle.decl_table.specs.declared.build.Declared.{Declared}
+use Rattle.decl_table.specs.declared.small.Declared.{Declared}
 use Rattle.decl_table.specs.Classes.{Numbers}
 
 pub record IsBuilt (names : List (List ℕ)) (u : SourceUnit) (d : Declared) : Type 0 where

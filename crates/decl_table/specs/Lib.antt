@@ -5,3 +5,6 @@ pub mod Numbered
 pub mod Written
 pub mod Program
 pub mod Files
+pub mod Bases
+pub mod Clashes
+pub mod Judged

@@ -9,19 +9,21 @@ use Rattle.java_tree.specs.Plain.{SourceUnit}
 use Rattle.rule_order.specs.declared.Breach.{Breach}
 use Rattle.rule_order.specs.First.{Breaches, Either, IsFirst}
 use Rattle.type_names.specs.declared.known.JavaNames.{JavaNames}
-use Rattle.type_names.specs.Known.{AreJavaNames, File, files_of}
+use Rattle.type_names.specs.Known.{File, files_of}
 use Rattle.type_names.specs.Sees.{meant}
 use Rattle.type_names.specs.Rules.{Among, NameBreaches, ImportBreaches}
 use Rattle.decl_rules.specs.PlainRules.{BreaksPlain}
 use Rattle.decl_rules.specs.DeclaredRules.{BreaksDeclared, declared_types, declared_methods}
 use Rattle.class_world.specs.declared.world.World.{World}
 use Rattle.class_world.specs.declared.world.TypeInfo.{TypeInfo}
+use Rattle.class_world.specs.declared.world.MethodInfo.{MethodInfo}
 use Rattle.class_world.specs.Ordered.{SameBut, IsClassBelowTwo}
 use Rattle.class_world.specs.Sound.{IsSound}
 use Rattle.built_in_types.specs.declared.words.Words.{Words}
 use Rattle.built_in_types.specs.declared.types.BuiltIns.{BuiltIns}
-use Rattle.built_in_types.specs.BuiltIns.{AreWords, built_in_types, built_in_methods, built_in_fields}
-use Rattle.type_headers.specs.Declared.{headers}
+use Rattle.built_in_types.specs.BuiltIns.{name_of, built_in_types, built_in_methods, built_in_fields}
+use Rattle.built_in_types.specs.declared.words.Word.TheVariants.{Java, Lang, Io}
+use Rattle.type_headers.specs.Declared.{Declaration, declarations, headers}
 use Rattle.declared_types.specs.Rules.{DeclaredTypeBreaches}
 use Rattle.super_rules.specs.Rules.{GenericSuperBreaches, SuperBreaches}
 use Rattle.method_rules.specs.Repeats.{RepeatsMethod}
@@ -29,14 +31,16 @@ use Rattle.program_world.specs.ProgramWorld.{world_of}
 
 -- The files of a program, and the numbers of the names that the built-in types need.
 pub record Program : Type 0 where
-  pub java : JavaNames
   pub words : Words
   pub user : List SourceUnit
   pub lib : List SourceUnit
 
--- these are the numbers in the table of names
-abbrev pub AreNamed : List (List ℕ) → Program → Type 0
-AreNamed names p = AreJavaNames names p.java × AreWords names p.words
+-- the names of which the packages of built-in types are made
+abbrev pub java_names : Words → JavaNames
+java_names w = record { java = name_of w Java; lang = name_of w Lang; io = name_of w Io }
+
+abbrev pub java : Program → JavaNames
+java p = java_names p.words
 
 abbrev pub files : Program → List File
 files p = files_of p.user p.lib
@@ -50,7 +54,7 @@ types p = headers (built p.words).types (files p)
 
 -- its types, methods and fields
 abbrev pub world : Program → World
-world p = world_of (built p.words) p.java (files p)
+world p = world_of (built p.words) (java p) (files p)
 
 -- ---- the rules on names, and on what a program leaves out
 
@@ -70,11 +74,13 @@ NamesGenerics ts j fs = (f : File) (n : Name) (c : ℕ) (info : TypeInfo) → me
 abbrev pub PlainBreaches : List (List ℕ) → JavaNames → List File → List TypeInfo → File → Breaches
 PlainBreaches names j fs ts f = BreaksPlain f.unit f.user names (is_generic_name j fs ts f)
 
--- S10 to S20, S22 and S23
+-- S10 to S20, S22 and S23, in a program of these files and headers of types
+abbrev pub ScopeSet : List (List ℕ) → JavaNames → List SourceUnit → List SourceUnit → List TypeInfo → Breaches
+ScopeSet names j user lib ts =
+    Either (Among (PlainBreaches names j (files_of user lib) ts) (files_of user lib)) (Either (NameBreaches j user lib) (GenericSuperBreaches j (files_of user lib) ts))
+
 abbrev pub ScopeBreaches : List (List ℕ) → Program → Breaches
-ScopeBreaches names p =
-    Either (Among (PlainBreaches names p.java (files p) (types p)) (files p))
-    (Either (NameBreaches p.java p.user p.lib) (GenericSuperBreaches p.java (files p) (types p)))
+ScopeBreaches names p = ScopeSet names (java p) p.user p.lib (types p)
 
 -- ---- how many declarations there are
 
@@ -82,11 +88,15 @@ abbrev pub sum : (SourceUnit → ℕ) → List SourceUnit → ℕ
 sum count [] = 0
 sum count (u ∷ us) = count u + sum count us
 
+-- those of user files and library files
+abbrev pub total : (SourceUnit → ℕ) → List SourceUnit → List SourceUnit → ℕ
+total count user lib = sum count user + sum count lib
+
 abbrev pub type_count : Program → ℕ
-type_count p = sum declared_types p.user + sum declared_types p.lib
+type_count p = total declared_types p.user p.lib
 
 abbrev pub method_count : Program → ℕ
-method_count p = sum declared_methods p.user + sum declared_methods p.lib
+method_count p = total declared_methods p.user p.lib
 
 -- which limit so many types and methods go past: none, that of the types (6), or that of the methods (7)
 abbrev pub IsLimitOver : (types methods : ℕ) → Option ℕ → Type 0
@@ -100,14 +110,22 @@ abbrev pub ClashBreaches : World → Breaches
 ClashBreaches w b =
     (c : ℕ) × (info : TypeInfo) × (slice_get w.types c ≡ Some info) × IsClassBelowTwo w c × (n : ℕ) × (info.node ≡ Some n) × (b.node ≡ n) × (b.rule ≡ 4)
 
--- DR1 to DR12
+-- DR1 to DR12 but for DR4, in a program of these files, headers of types, and methods
+abbrev pub RuleBreaches : JavaNames → List File → List TypeInfo → List MethodInfo → Breaches
+RuleBreaches j fs ts ms =
+    Either (Among (λ f. BreaksDeclared f.unit) fs)
+    (Either (ImportBreaches j fs) (Either (DeclaredTypeBreaches j fs ts) (Either (SuperBreaches j fs ts) (RepeatsMethod ms))))
+
+-- DR1 to DR12, where the built-in types are these
+abbrev pub DeclarationSet : BuiltIns → JavaNames → List File → Breaches
+DeclarationSet b j fs = Either (RuleBreaches j fs (headers b.types fs) (world_of b j fs).methods) (ClashBreaches (world_of b j fs))
+
 abbrev pub DeclarationBreaches : Program → Breaches
-DeclarationBreaches p =
-    Either (Among (λ f. BreaksDeclared f.unit) (files p))
-    (Either (ImportBreaches p.java (files p))
-    (Either (DeclaredTypeBreaches p.java (files p) (types p))
-    (Either (SuperBreaches p.java (files p) (types p))
-    (Either (RepeatsMethod (world p).methods) (ClashBreaches (world p))))))
+DeclarationBreaches p = DeclarationSet (built p.words) (java p) (files p)
+
+-- Types are declared in the order of their nodes, as in trees that are numbered one behind the other.
+abbrev pub AreInOrder : List Declaration → Type 0
+AreInOrder xs = (i k : ℕ) (x y : Declaration) → i < k → slice_get xs i ≡ Some x → slice_get xs k ≡ Some y → x.decl.node.id < y.decl.node.id
 
 -- ---- what comes of a program
 
@@ -122,12 +140,15 @@ IsFirstOf f S b = (b.family ≡ f) × ((n : ℕ) × (b.node ≡ Some n) × IsFir
 abbrev pub IsLimit : ℕ → Broken → Type 0
 IsLimit rule b = (b.family ≡ family.L) × (b.number ≡ rule) × (b.node ≡ None)
 
+-- One of these rules, else L6, else L7, of so many types and methods.
+abbrev pub IsEarlyRefusal : Breaches → (types methods : ℕ) → Broken → Type 0
+IsEarlyRefusal S types methods b =
+    IsFirstOf family.S S b ⊎ (IsNone S × (4096 < types) × IsLimit 6 b) ⊎ (IsNone S × (types ≤ 4096) × (65536 < methods) × IsLimit 7 b)
+
 -- The broken rule that is named: one of the S rules, else L6, else L7, else one of the DR rules.
 abbrev pub IsRefusal : List (List ℕ) → Program → Broken → Type 0
 IsRefusal names p b =
-    IsFirstOf family.S (ScopeBreaches names p) b
-    ⊎ (IsNone (ScopeBreaches names p) × (4096 < type_count p) × IsLimit 6 b)
-    ⊎ (IsNone (ScopeBreaches names p) × (type_count p ≤ 4096) × (65536 < method_count p) × IsLimit 7 b)
+    IsEarlyRefusal (ScopeBreaches names p) (type_count p) (method_count p) b
     ⊎ (IsNone (ScopeBreaches names p) × (type_count p ≤ 4096) × (method_count p ≤ 65536) × IsFirstOf family.DR (DeclarationBreaches p) b)
 
 -- No rule is broken, and the world is the program's, with the table of its order.

@@ -1,18 +1,20 @@
 //! The declared types and methods of a small file, and the rules on its declarations (JLS 3rd edition, chapter 8).
 #![tactic(auto)]
 
-mod build;
+mod small;
 mod built_ins;
 mod classes;
 mod declarations;
 mod generics;
 mod limits;
 mod methods;
+mod program;
 mod rules;
 mod scope;
 mod tree;
 mod types;
 mod written;
 
-pub use build::{BuildFault, Declared, build_small};
+pub use small::{BuildFault, Declared, build_small};
 pub use classes::ClassTable;
+pub use program::build;

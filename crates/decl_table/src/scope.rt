@@ -7,7 +7,10 @@ ghost use Rattle.type_names.specs.declared.known.JavaNames as spec;
 ghost use Rattle.type_names.specs.Known.{File, files_of};
 ghost use Rattle.type_names.specs.Rules.{Among};
 ghost use Rattle.type_names.specs.Tables.{StandsFor, files_in};
-ghost use Rattle.decl_table.specs.Program.{NamesGenerics, PlainBreaches};
+ghost use Rattle.class_world.specs.declared.world.TypeInfo as spec_world;
+ghost use Rattle.type_headers.specs.Declared.{headers};
+ghost use Rattle.decl_table.specs.Bases.{AreBases};
+ghost use Rattle.decl_table.specs.Program.{NamesGenerics, PlainBreaches, ScopeSet};
 ghost use Rattle.decl_table.specs.Files.{StandAt};
 
 use crate::generics::generic_names;
@@ -17,10 +20,32 @@ use java_tree::tree::SourceUnit;
 use java_tree::{Names, NoMemory};
 use rule_order::{Breach, earlier};
 use std::alloc::Global;
-use type_names::TypeNames;
+use super_rules::first_generic_super;
+use type_names::{JavaNames, TypeNames, first_name_breach};
+
+/// The first of S10 to S20, S22 and S23 that is broken, in a program whose types have these headers.
+pub(crate) fn first_scope_breach(
+    alloc: Global,
+    names: &Names,
+    java: JavaNames,
+    meant: &TypeNames,
+    types: &[TypeInfo],
+    user: &[SourceUnit],
+    lib: &[SourceUnit],
+) -> Result<Option<Breach>, NoMemory>
+    ensures { (built : List spec_world.TypeInfo) → AreBases built → StandsFor meant.now java (files_of (map unit_plain user.now) (map unit_plain lib.now))
+        → types.now ≡ headers built (files_of (map unit_plain user.now) (map unit_plain lib.now))
+        → IfOk result (λ r. IsFirst (ScopeSet names.now java (map unit_plain user.now) (map unit_plain lib.now) types.now) r) }
+{
+    let in_supers = first_generic_super(alloc, meant, types, user, lib)?;
+    let in_names = first_name_breach(alloc, java, user, lib)?;
+    let in_files = first_plain_breach(alloc, names, meant, types, user, lib)?;
+    let behind = earlier(in_names, in_supers);
+    Ok(earlier(in_files, behind))
+}
 
 /// The first of S10, S12, S13 and S16 to S19 that the files break.
-pub(crate) fn first_plain_breach(
+fn first_plain_breach(
     alloc: Global,
     names: &Names,
     meant: &TypeNames,

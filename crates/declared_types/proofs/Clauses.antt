@@ -21,7 +21,8 @@ use Rattle.written_types.specs.Places.{Place}
 use Rattle.written_types.specs.Types.{type_of}
 use Rattle.written_types.specs.Breaks.{node_of, args_of}
 use Rattle.declared_types.specs.Rules.{wants_class, IsUnfit, StandsTwice, IsWrongSuper, BreaksSuper}
-use Rattle.declared_types.specs.Looks.{is_unfit, is_spelled, SaysAgain, IsWrong, BreaksBehind}
+use Rattle.declared_types.specs.Spelling.{is_spelled}
+use Rattle.declared_types.specs.Looks.{is_unfit, SaysAgain, IsWrong, BreaksBehind}
 use Rattle.declared_types.proofs.Deciding.{contains_at, at_contains, wrong_decides}
 use Rattle.declared_types.proofs.Lists.{taken}
 

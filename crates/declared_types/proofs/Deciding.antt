@@ -2,15 +2,15 @@
 use Rattle.std.proofs.Common.{◌≡◌, ◌<◌, ℕ, Bool, true, false, not, cond, ◌&&◌, ◌||◌, ◌⊎◌, inl, inr, List, [], ◌∷◌, ◌++◌, Option, Some, None, refl, sym, ap, subst, ◌∙◌}
 use Rattle.std.specs.HashSet.{HashSet}
 use Rattle.std.specs.declared.alloc.Global.{Global}
-use Rattle.std.specs.Prelude.{Vec, Decides, Contains, slice_get, nat_lt, is_some}
+use Rattle.std.specs.Prelude.{Vec, Decides, Contains, slice_get, nat_lt, nat_eq, is_some}
 use Rattle.std.specs.Bool.{beq}
 use Rattle.std.specs.List.{list_any}
-use Rattle.std.specs.Str.{bytes_eq}
+use Rattle.std.specs.Cmp.Lexicographic.{pointwise}
 use Rattle.std.proofs.lemmas.Bool.{cases_Bool}
-use Rattle.std.proofs.lemmas.Bool.Decides.{Decides-ltb, Decides-and, Decides-or, Decides-like}
+use Rattle.std.proofs.lemmas.Bool.Decides.{Decides-eqb, Decides-ltb, Decides-and, Decides-or, Decides-like}
 use Rattle.std.proofs.lemmas.List.Folds.{list_any-append}
 use Rattle.std.proofs.lemmas.Option.{slice_get_within, slice_get-get_or, get_or_from_slice_get}
-use Rattle.std.proofs.lemmas.Slice.Eq.{bytes_eq-Decides}
+use Rattle.std.proofs.lemmas.Slice.Eq.{slice_eq-Decides}
 use Rattle.java_tree.specs.declared.tree.Mod.{Mod}
 use Rattle.java_tree.specs.declared.tree.Mod.TheVariants as mods
 use Rattle.java_tree.specs.Plain as t
@@ -29,7 +29,10 @@ use Rattle.written_types.specs.Walk.{head_named}
 use Rattle.written_types.proofs.Heads.{named_variable, named_type, variable_named, type_named}
 use Rattle.written_types.proofs.Typing.{typed_where_named}
 use Rattle.declared_types.specs.Rules.{IsUnfit}
-use Rattle.declared_types.specs.Looks.{is_bare, is_final_mod, unfit_info, unfit_by, is_unfit, spelled, is_spelled, SaysAgain, HoldsSpelled, IsWrong}
+use Rattle.declared_types.specs.declared.spelling.Sign.{Sign}
+use Rattle.declared_types.specs.declared.spelling.Sign.TheVariants as sign
+use Rattle.declared_types.specs.Spelling.{same_sign, spelled, is_spelled, HoldsSpelled}
+use Rattle.declared_types.specs.Looks.{is_bare, is_final_mod, unfit_info, unfit_by, is_unfit, SaysAgain, IsWrong}
 use Rattle.declared_types.proofs.Spelled.{same_type, one_spelling}
 
 -- ---- lists
@@ -111,6 +114,21 @@ unfit_decides types p wants (t.Written n h s xs d) = split (head_named p h) refl
 
 -- ---- a type that is said again
 
+sign_decides : (a b : Sign) → Decides (same_sign a b) (a ≡ b)
+sign_decides (sign.Levels d) (sign.Levels e) = Decides-like (nat_eq d e) (λ h. ap sign.Levels h) (λ h. cc h) (Decides-eqb d e)
+sign_decides sign.Int sign.Int = (λ e. refl, λ e. refl)
+sign_decides sign.Long sign.Long = (λ e. refl, λ e. refl)
+sign_decides sign.Char sign.Char = (λ e. refl, λ e. refl)
+sign_decides sign.Boolean sign.Boolean = (λ e. refl, λ e. refl)
+sign_decides (sign.Variable j) (sign.Variable k) = Decides-like (nat_eq j k) (λ h. ap sign.Variable h) (λ h. cc h) (Decides-eqb j k)
+sign_decides (sign.Type c) (sign.Type d) = Decides-like (nat_eq c d) (λ h. ap sign.Type h) (λ h. cc h) (Decides-eqb c d)
+sign_decides sign.Nothing sign.Nothing = (λ e. refl, λ e. refl)
+sign_decides (sign.Arguments n) (sign.Arguments m) = Decides-like (nat_eq n m) (λ h. ap sign.Arguments h) (λ h. cc h) (Decides-eqb n m)
+sign_decides _ _ = (λ e. absurd (cc e), λ e. absurd (cc e))
+
+row_decides : (us vs : List Sign) → Decides (pointwise same_sign us vs) (us ≡ vs)
+row_decides us vs = slice_eq-Decides sign_decides us vs (pointwise same_sign us vs) refl
+
 pub typed_test : (p : Place) (x : TypeExpr) (o : Option Breach) (r : Bool) → IsFirst (IllNamed p x) o → is_some o ≡ not r → r ≡ is_some (type_of p x)
 typed_test p x None true none e = let typed = (typed_where_named p x).1 none in sym (ap is_some typed.1)
 typed_test p x None false none e = absurd (cc e)
@@ -128,7 +146,7 @@ some_is (Some x) e = (x, refl)
 again_decides : (p : Place) (before : List TypeExpr) (x : TypeExpr) → Decides (is_spelled p before x && is_some (type_of p x)) (SaysAgain p before x)
 again_decides p before x = (λ e. says (cases_Bool (is_spelled p before x)) e, λ h. test h)
   where
-    append_none : (us : List ℕ) → us ++ [] ≡ us
+    append_none : (us : List Sign) → us ++ [] ≡ us
     append_none [] = refl
     append_none (u ∷ us) = ap (λ l. u ∷ l) (append_none us)
 
@@ -136,16 +154,16 @@ again_decides p before x = (λ e. says (cases_Bool (is_spelled p before x)) e, �
     says (inr missing) e = absurd (cc (ap (λ b. b && is_some (type_of p x)) missing, e))
     says (inl there) e =
         let typed = some_is (type_of p x) (sym (ap (λ b. b && is_some (type_of p x)) there) ∙ e) in
-        let found = any_from (λ y. bytes_eq (spelled p x) (spelled p y)) before there in
-        let same = (bytes_eq-Decides (spelled p x) (spelled p found.1)).0 found.3 in
+        let found = any_from (λ y. pointwise same_sign (spelled p x) (spelled p y)) before there in
+        let same = (row_decides (spelled p x) (spelled p found.1)).0 found.3 in
         let one = (same_type p x found.1 [] [] (append_none (spelled p x) ∙ same ∙ sym (append_none (spelled p found.1)))).0 in
         (found.1, contains_at before found.0 found.1 found.2, typed.0, sym one ∙ typed.1, typed.1)
 
     test : SaysAgain p before x → (is_spelled p before x && is_some (type_of p x)) ≡ true
     test (y, among, z, said, is) =
         let there = at_contains before y among in
-        let same = (bytes_eq-Decides (spelled p x) (spelled p y)).1 (one_spelling p x y z is said) in
-        ap (λ b. b && is_some (type_of p x)) (any_at (λ y. bytes_eq (spelled p x) (spelled p y)) before there.0 y there.1 same) ∙ ap is_some is
+        let same = (row_decides (spelled p x) (spelled p y)).1 (one_spelling p x y z is said) in
+        ap (λ b. b && is_some (type_of p x)) (any_at (λ y. pointwise same_sign (spelled p x) (spelled p y)) before there.0 y there.1 same) ∙ ap is_some is
 
 pub wrong_decides : (types : List TypeInfo) (p : Place) (wants : Bool) (before : List TypeExpr) (x : TypeExpr)
     → Decides (is_unfit types p wants x || (is_spelled p before x && is_some (type_of p x))) (IsWrong types p wants before x)
@@ -158,18 +176,18 @@ not_not : (b : Bool) → not (not b) ≡ b
 not_not true = refl
 not_not false = refl
 
-pub spelled_before : (p : Place) (before : List TypeExpr) (x : TypeExpr) (key : List ℕ) (is_new has : Bool) → key ≡ spelled p x → is_new ≡ not has
-    → has ≡ list_any (λ y. bytes_eq key (spelled p y)) before → not is_new ≡ is_spelled p before x
-spelled_before p before x key is_new has is new there = ap not new ∙ not_not has ∙ there ∙ ap (λ k. list_any (λ y. bytes_eq k (spelled p y)) before) is
+pub spelled_before : (p : Place) (before : List TypeExpr) (x : TypeExpr) (key : List Sign) (is_new has : Bool) → key ≡ spelled p x → is_new ≡ not has
+    → has ≡ list_any (λ y. pointwise same_sign key (spelled p y)) before → not is_new ≡ is_spelled p before x
+spelled_before p before x key is_new has is new there = ap not new ∙ not_not has ∙ there ∙ ap (λ k. list_any (λ y. pointwise same_sign k (spelled p y)) before) is
 
-turned : (us vs : List ℕ) → bytes_eq us vs ≡ bytes_eq vs us
-turned us vs = split (bytes_eq us vs) (bytes_eq vs us) refl refl
+turned : (us vs : List Sign) → pointwise same_sign us vs ≡ pointwise same_sign vs us
+turned us vs = split (pointwise same_sign us vs) (pointwise same_sign vs us) refl refl
   where
-    split : (a b : Bool) → bytes_eq us vs ≡ a → bytes_eq vs us ≡ b → a ≡ b
+    split : (a b : Bool) → pointwise same_sign us vs ≡ a → pointwise same_sign vs us ≡ b → a ≡ b
     split true true e f = refl
     split false false e f = refl
-    split true false e f = absurd (cc (f, (bytes_eq-Decides vs us).1 (sym ((bytes_eq-Decides us vs).0 e))))
-    split false true e f = absurd (cc (e, (bytes_eq-Decides us vs).1 (sym ((bytes_eq-Decides vs us).0 f))))
+    split true false e f = absurd (cc (f, (row_decides vs us).1 (sym ((row_decides us vs).0 e))))
+    split false true e f = absurd (cc (e, (row_decides us vs).1 (sym ((row_decides vs us).0 f))))
 
 either_way : (b o : Bool) → cond b true o ≡ (o || (b || false))
 either_way true true = refl
@@ -177,11 +195,11 @@ either_way true false = refl
 either_way false true = refl
 either_way false false = refl
 
-pub spelled_more : (p : Place) (before : List TypeExpr) (x : TypeExpr) (key q : List ℕ) (old new : Bool) → key ≡ spelled p x → new ≡ cond (bytes_eq key q) true old
-    → old ≡ list_any (λ y. bytes_eq q (spelled p y)) before → new ≡ list_any (λ y. bytes_eq q (spelled p y)) (before ++ x ∷ [])
+pub spelled_more : (p : Place) (before : List TypeExpr) (x : TypeExpr) (key q : List Sign) (old new : Bool) → key ≡ spelled p x → new ≡ cond (pointwise same_sign key q) true old
+    → old ≡ list_any (λ y. pointwise same_sign q (spelled p y)) before → new ≡ list_any (λ y. pointwise same_sign q (spelled p y)) (before ++ x ∷ [])
 spelled_more p before x key q old new is put there =
-    put ∙ ap (λ b. cond b true old) (turned key q ∙ ap (bytes_eq q) is) ∙ either_way (bytes_eq q (spelled p x)) old
-    ∙ ap (λ b. b || (bytes_eq q (spelled p x) || false)) there ∙ sym (list_any-append (λ y. bytes_eq q (spelled p y)) before (x ∷ []))
+    put ∙ ap (λ b. cond b true old) (turned key q ∙ ap (pointwise same_sign q) is) ∙ either_way (pointwise same_sign q (spelled p x)) old
+    ∙ ap (λ b. b || (pointwise same_sign q (spelled p x) || false)) there ∙ sym (list_any-append (λ y. pointwise same_sign q (spelled p y)) before (x ∷ []))
 
-pub spelled_none : {S : Type 0} (p : Place) (seen : HashSet (Vec ℕ Global) S) → seen.keys ≡ [] → HoldsSpelled p seen []
-spelled_none p seen none q = ap (list_any (λ (y : Vec ℕ Global). bytes_eq q.items y.items)) none
+pub spelled_none : {S : Type 0} (p : Place) (seen : HashSet (Vec Sign Global) S) → seen.keys ≡ [] → HoldsSpelled p seen []
+spelled_none p seen none q = ap (list_any (λ (y : Vec Sign Global). pointwise same_sign q.items y.items)) none

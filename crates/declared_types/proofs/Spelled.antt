@@ -1,4 +1,4 @@
--- Two written types that say a type say the same exactly if they spell the same numbers.
+-- Two written types that say a type say the same exactly if they are spelled alike.
 use Rattle.std.proofs.Common.{◌≡◌, ℕ, zero, suc, Bool, true, false, cond, List, [], ◌∷◌, ◌++◌, length, Option, Some, None, refl, sym, ap, subst, ◌∙◌, append_assoc}
 use Rattle.std.specs.Prelude.{option_and_then}
 use Rattle.std.specs.Option.{option_map}
@@ -17,23 +17,33 @@ use Rattle.written_types.specs.declared.scope.Named.{Named}
 use Rattle.written_types.specs.declared.scope.Named.TheVariants as named
 use Rattle.written_types.specs.Walk.{head_named, well_by, made_by}
 use Rattle.written_types.proofs.Typing.{head_as}
-use Rattle.declared_types.specs.Looks.{primitive_number, head_numbers, spelled, all_spelled}
+use Rattle.declared_types.specs.declared.spelling.Sign.{Sign}
+use Rattle.declared_types.specs.declared.spelling.Sign.TheVariants as sign
+use Rattle.declared_types.specs.Spelling.{head_sign, spelled, all_spelled}
 
 -- ---- heads
 
-same_number : (q r : Primitive) → primitive_number q ≡ primitive_number r → q ≡ r
-same_number prim.Int prim.Int e = refl
-same_number prim.Long prim.Long e = refl
-same_number prim.Char prim.Char e = refl
-same_number prim.Boolean prim.Boolean e = refl
-same_number _ _ e = absurd (cc e)
+same_primitive_sign : (q r : Primitive) → head_sign (named.Primitive q) ≡ head_sign (named.Primitive r) → q ≡ r
+same_primitive_sign prim.Int prim.Int e = refl
+same_primitive_sign prim.Long prim.Long e = refl
+same_primitive_sign prim.Char prim.Char e = refl
+same_primitive_sign prim.Boolean prim.Boolean e = refl
+same_primitive_sign _ _ e = absurd (cc e)
 
-same_named : (m n : Named) → (head_numbers m).0 ≡ (head_numbers n).0 → (head_numbers m).1 ≡ (head_numbers n).1 → m ≡ n
-same_named (named.Primitive q) (named.Primitive r) e f = ap named.Primitive (same_number q r f)
-same_named (named.Variable j) (named.Variable k) e f = ap named.Variable f
-same_named (named.Type c) (named.Type d) e f = ap named.Type f
-same_named named.Nothing named.Nothing e f = refl
-same_named _ _ e f = absurd (cc e)
+same_head : (m n : Named) → head_sign m ≡ head_sign n → m ≡ n
+same_head (named.Primitive q) (named.Primitive r) e = ap named.Primitive (same_primitive_sign q r e)
+same_head (named.Primitive prim.Int) _ e = absurd (cc e)
+same_head (named.Primitive prim.Long) _ e = absurd (cc e)
+same_head (named.Primitive prim.Char) _ e = absurd (cc e)
+same_head (named.Primitive prim.Boolean) _ e = absurd (cc e)
+same_head _ (named.Primitive prim.Int) e = absurd (cc e)
+same_head _ (named.Primitive prim.Long) e = absurd (cc e)
+same_head _ (named.Primitive prim.Char) e = absurd (cc e)
+same_head _ (named.Primitive prim.Boolean) e = absurd (cc e)
+same_head (named.Variable j) (named.Variable k) e = ap named.Variable (cc e)
+same_head (named.Type c) (named.Type d) e = ap named.Type (cc e)
+same_head named.Nothing named.Nothing e = refl
+same_head _ _ e = absurd (cc e)
 
 abbrev type_by : Place → Named → List JavaType → Option JavaType
 type_by p m ys = cond (well_by p m (length ys)) (made_by m ys) None
@@ -42,23 +52,22 @@ head_alike : (p : Place) (h k : Head) (o : Option (List JavaType)) → head_name
 head_alike p h k None e = refl
 head_alike p h k (Some ys) e = head_as p h ys ∙ ap (λ m. type_by p m ys) e ∙ sym (head_as p k ys)
 
--- ---- what spells the same says the same
+-- ---- what is spelled alike says the same
 
 mutual
-  pub same_type : (p : Place) (x y : TypeExpr) (us vs : List ℕ) → spelled p x ++ us ≡ spelled p y ++ vs → (type_of p x ≡ type_of p y) × (us ≡ vs)
+  pub same_type : (p : Place) (x y : TypeExpr) (us vs : List Sign) → spelled p x ++ us ≡ spelled p y ++ vs → (type_of p x ≡ type_of p y) × (us ≡ vs)
   same_type p (t.Written n h s xs d) (t.Written m k r ys e) us vs is =
       let levels : d ≡ e = cc is in
-      let kinds : (head_numbers (head_named p h)).0 ≡ (head_numbers (head_named p k)).0 = cc is in
-      let numbers : (head_numbers (head_named p h)).1 ≡ (head_numbers (head_named p k)).1 = cc is in
+      let heads : head_sign (head_named p h) ≡ head_sign (head_named p k) = cc is in
       let counts : length_of xs ≡ length_of ys = cc is in
       let args = same_types p xs ys us vs counts (cc is) in (
         ap (λ n. option_map (arrays n) (option_and_then (head_type p h) (types_of p xs))) levels
             ∙ ap (λ o. option_map (arrays e) (option_and_then (head_type p h) o)) args.0
-            ∙ ap (option_map (arrays e)) (head_alike p h k (types_of p ys) (same_named (head_named p h) (head_named p k) kinds numbers)),
+            ∙ ap (option_map (arrays e)) (head_alike p h k (types_of p ys) (same_head (head_named p h) (head_named p k) heads)),
         args.1,
       )
 
-  same_types : (p : Place) (xs ys : TypeExprs) (us vs : List ℕ) → length_of xs ≡ length_of ys → all_spelled p xs ++ us ≡ all_spelled p ys ++ vs → (types_of p xs ≡ types_of p ys) × (us ≡ vs)
+  same_types : (p : Place) (xs ys : TypeExprs) (us vs : List Sign) → length_of xs ≡ length_of ys → all_spelled p xs ++ us ≡ all_spelled p ys ++ vs → (types_of p xs ≡ types_of p ys) × (us ≡ vs)
   same_types p t.NoTypes t.NoTypes us vs count is = (refl, is)
   same_types p t.NoTypes (t.AndType y ys) us vs count is = absurd (cc count)
   same_types p (t.AndType x xs) t.NoTypes us vs count is = absurd (cc count)
@@ -68,7 +77,7 @@ mutual
       let rest = same_types p xs ys us vs (cc count) one.1 in
       (ap (λ o. joined o (types_of p xs)) one.0 ∙ ap (joined (type_of p y)) rest.0, rest.1)
 
--- ---- what says the same spells the same
+-- ---- what says the same is spelled alike
 
 -- a type that a head says
 record IsHead (p : Place) (m : Named) (ys : List JavaType) (z : JavaType) : Type 0 where
@@ -171,7 +180,7 @@ mutual
       let level = one_array d e a.own b.own (λ x. flat p (head_named p h) a.args a.own x a.head) (λ x. flat p (head_named p k) b.args b.own x b.head) (a.is ∙ sym b.is) in
       let head = one_head p (head_named p h) (head_named p k) a.args b.args b.own (subst (IsHead p (head_named p h) a.args) level.1 a.head) b.head in
       let args = one_row p xs ys b.args (a.are ∙ ap Some head.1) b.are in
-      let all : ℕ → Named → ℕ → List ℕ → List ℕ = λ d m n rest. (d ∷ (head_numbers m).0 ∷ (head_numbers m).1 ∷ n ∷ []) ++ rest in
+      let all : ℕ → Named → ℕ → List Sign → List Sign = λ d m n rest. (sign.Levels d ∷ head_sign m ∷ sign.Arguments n ∷ []) ++ rest in
       ap (λ d. all d (head_named p h) (length_of xs) (all_spelled p xs)) level.0 ∙ ap (λ m. all e m (length_of xs) (all_spelled p xs)) head.0
       ∙ ap (λ n. all e (head_named p k) n (all_spelled p xs)) args.0 ∙ ap (all e (head_named p k) (length_of ys)) args.1
 

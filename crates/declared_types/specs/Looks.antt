@@ -1,14 +1,9 @@
 -- What the parts of the search look for.
-use Rattle.std.specs.Prelude.{◌≡◌, ℕ, ◌+◌, ◌⊎◌, Bool, true, false, ◌&&◌, ◌||◌, nat_lt, List, [], ◌∷◌, ◌++◌, map, take, Option, Some, None, Contains, slice_get, Vec}
+use Rattle.std.specs.Prelude.{◌≡◌, ℕ, ◌+◌, ◌⊎◌, Bool, true, false, ◌&&◌, ◌||◌, nat_lt, List, ◌++◌, map, take, Option, Some, None, Contains, slice_get}
 use Rattle.std.specs.Bool.{beq}
 use Rattle.std.specs.List.{list_any}
-use Rattle.std.specs.Str.{bytes_eq}
-use Rattle.std.specs.HashSet.{HashSet, contains}
-use Rattle.std.specs.declared.alloc.Global.{Global}
 use Rattle.java_tree.specs.declared.tree.Mod.{Mod}
 use Rattle.java_tree.specs.declared.tree.Mod.TheVariants as mods
-use Rattle.java_tree.specs.declared.tree.Primitive.{Primitive}
-use Rattle.java_tree.specs.declared.tree.Primitive.TheVariants as prim
 use Rattle.java_tree.specs.Plain as t
 use Rattle.java_tree.specs.Plain.{TypeExpr, TypeExprs, TypeDecl}
 use Rattle.class_world.specs.declared.world.TypeInfo.{TypeInfo}
@@ -21,7 +16,7 @@ use Rattle.written_types.specs.Types.{type_of}
 use Rattle.written_types.specs.declared.scope.Named.{Named}
 use Rattle.written_types.specs.declared.scope.Named.TheVariants as named
 use Rattle.written_types.specs.Walk.{head_named}
-use Rattle.written_types.specs.Breaks.{node_of, head_of, args_of, length_of, NamesVariable, NamesType}
+use Rattle.written_types.specs.Breaks.{node_of, head_of, args_of, NamesVariable, NamesType}
 use Rattle.type_headers.specs.Declared.{Declaration}
 use Rattle.declared_types.specs.Rules.{IsUnfit}
 
@@ -50,43 +45,11 @@ unfit_by types wants bare named.Nothing = false
 abbrev pub is_unfit : List TypeInfo → Place → (wants : Bool) → TypeExpr → Bool
 is_unfit types p wants (t.Written n h s xs d) = unfit_by types wants (is_bare xs) (head_named p h)
 
--- ---- types as numbers
-
-abbrev pub primitive_number : Primitive → ℕ
-primitive_number prim.Int = 0
-primitive_number prim.Long = 1
-primitive_number prim.Char = 2
-primitive_number prim.Boolean = 3
-
--- which of the kinds of names it is, and its number among these
-abbrev pub head_numbers : Named → ℕ × ℕ
-head_numbers (named.Primitive q) = (0, primitive_number q)
-head_numbers (named.Variable k) = (1, k)
-head_numbers (named.Type c) = (2, c)
-head_numbers named.Nothing = (3, 0)
-
-abbrev mutual
-  -- array levels, head and number of arguments, and then the arguments
-  pub spelled : Place → TypeExpr → List ℕ
-  spelled p (t.Written n h s xs d) = (d ∷ (head_numbers (head_named p h)).0 ∷ (head_numbers (head_named p h)).1 ∷ length_of xs ∷ []) ++ all_spelled p xs
-
-  pub all_spelled : Place → TypeExprs → List ℕ
-  all_spelled p t.NoTypes = []
-  all_spelled p (t.AndType x xs) = spelled p x ++ all_spelled p xs
-
--- whether one of these spells the same
-abbrev pub is_spelled : Place → List TypeExpr → TypeExpr → Bool
-is_spelled p before x = list_any (λ y. bytes_eq (spelled p x) (spelled p y)) before
+-- ---- supertypes of one clause, behind others
 
 -- one of these says the type that x says
 abbrev pub SaysAgain : Place → List TypeExpr → TypeExpr → Type 0
 SaysAgain p before x = (y : TypeExpr) × Contains before y × (ty : JavaType) × (type_of p y ≡ Some ty) × (type_of p x ≡ Some ty)
-
--- the set of what these spell
-abbrev pub HoldsSpelled : {S : Type 0} → Place → HashSet (Vec ℕ Global) S → List TypeExpr → Type 0
-HoldsSpelled p seen before = (q : Vec ℕ Global) → contains (λ x y. bytes_eq x.items y.items) seen q ≡ list_any (λ y. bytes_eq q.items (spelled p y)) before
-
--- ---- supertypes of one clause, behind others
 
 abbrev pub IsWrong : List TypeInfo → Place → (wants : Bool) → List TypeExpr → TypeExpr → Type 0
 IsWrong types p wants before x =

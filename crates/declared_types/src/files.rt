@@ -19,7 +19,7 @@ use std::alloc::Global;
 use type_names::{JavaNames, TypeNames};
 use written_types::Scope;
 
-/// The first of DR1 and DR2 that a declaration breaks outside bodies, with the number behind the DR: the names are those of the program of these user files and library files, and `types` has what is known of its types, by number. Takes time for the written types. `NoMemory` also where there are more than 2^32 files.
+/// The first of DR1 and DR2 that a declaration breaks outside bodies, by the node's number and the number behind the DR. `names` are those of the program of these user files and library files, and `types` has what is known of its types, by number. The time is that of one walk over the written types. `NoMemory` comes also where a file's number is 2^32 or more.
 pub fn first_declared_breach(
     alloc: Global,
     names: &TypeNames,

@@ -9,11 +9,12 @@ ghost use Rattle.rule_order.specs.Noted.{Adds};
 ghost use Rattle.written_types.specs.Places.{Place, IsPlace};
 ghost use Rattle.written_types.specs.Types.{type_of};
 ghost use Rattle.declared_types.specs.Rules.{NamesNoType, BreaksSuper};
-ghost use Rattle.declared_types.specs.Looks.{HoldsSpelled, BreaksBehind};
+ghost use Rattle.declared_types.specs.Spelling.{is_spelled, HoldsSpelled};
+ghost use Rattle.declared_types.specs.Looks.{BreaksBehind};
 ghost use Rattle.declared_types.specs.Looks as spec;
 
 use crate::members::{note_members, note_types};
-use crate::spelling::spell;
+use crate::spelling::{Sign, spell};
 use class_world::TypeInfo;
 use java_tree::NoMemory;
 use java_tree::tree::{Mod, TypeDecl, TypeExpr};
@@ -33,6 +34,7 @@ fn is_final(mods: &[Mod]) -> bool
     false
 }
 
+// Whether the type of a number, if there is one, is of the wrong kind, final or, without arguments, raw.
 fn is_unfit_type(types: &[TypeInfo], number: u32, wants_class: bool, bare: bool) -> bool
     ensures { result ≡ spec.unfit_info wants_class bare (slice_get types.now number) }
 {
@@ -60,13 +62,14 @@ fn is_unfit(scope: &Scope<'_>, wants_class: bool, x: &TypeExpr) -> bool
     }
 }
 
+// Whether a written type says a type.
 fn is_typed(scope: &Scope<'_>, x: &TypeExpr) -> bool
     ensures { (p : Place) → IsPlace scope.now p → result ≡ is_some (type_of p (type_plain x.now)) }
 {
     first_ill_named(scope, x).is_none()
 }
 
-// Whether a supertype is unfit, or says a type again that is spelled like it.
+// Whether a supertype is unfit, or says what an earlier type says that is spelled the same.
 fn is_wrong(scope: &Scope<'_>, wants_class: bool, again: bool, x: &TypeExpr) -> bool
     ensures { (p : Place) → IsPlace scope.now p
         → result ≡ (spec.is_unfit scope.now.types.now p wants_class (type_plain x.now) || (again && is_some (type_of p (type_plain x.now)))) }
@@ -74,21 +77,21 @@ fn is_wrong(scope: &Scope<'_>, wants_class: bool, again: bool, x: &TypeExpr) -> 
     is_unfit(scope, wants_class, x) || (again && is_typed(scope, x))
 }
 
-// Whether an earlier type spells the same; it is among them from now on.
+// Whether an earlier type is spelled the same; this one is among them from now on.
 fn push_spelled(
     alloc: Global,
     scope: &Scope<'_>,
     x: &TypeExpr,
-    seen: &mut HashSet<Vec<usize>>,
+    seen: &mut HashSet<Vec<Sign>>,
 ) -> Result<bool, NoMemory>
     ensures again { (p : Place) (before : List t.TypeExpr) → IsPlace scope.now p → HoldsSpelled p seen.old before
-        → IfOk result (λ r. r ≡ spec.is_spelled p before (type_plain x.now)) }
+        → IfOk result (λ r. r ≡ is_spelled p before (type_plain x.now)) }
     ensures held { (p : Place) (before : List t.TypeExpr) → IsPlace scope.now p → HoldsSpelled p seen.old before
         → OnOk result (HoldsSpelled p seen.new (before ++ type_plain x.now ∷ [])) }
 {
-    let mut key = Vec::new(alloc);
-    spell(scope, x, &mut key)?;
-    let is_new = seen.insert(key)?;
+    let mut signs = Vec::new(alloc);
+    spell(scope, x, &mut signs)?;
+    let is_new = seen.insert(signs)?;
     Ok(!is_new)
 }
 
@@ -98,7 +101,7 @@ fn note_supers(
     scope: &Scope<'_>,
     wants_class: bool,
     xs: &[TypeExpr],
-    seen: &mut HashSet<Vec<usize>>,
+    seen: &mut HashSet<Vec<Sign>>,
     mut first: Option<Breach>,
 ) -> Result<Option<Breach>, NoMemory>
     ensures adds { (p : Place) (before : List t.TypeExpr) → IsPlace scope.now p → HoldsSpelled p seen.old before

@@ -10,7 +10,7 @@ use Rattle.java_grammar.specs.declared.token.Tok.{Tok}
 use Rattle.small_programs.specs.Texts.{Lexes}
 use Rattle.small_programs.specs.Grammar.{Spells}
 use Rattle.java_typing.specs.Typing.{StepsHold}
-use Rattle.decl_table.specs.declared.build.Declared.{Declared}
+use Rattle.decl_table.specs.declared.small.Declared.{Declared}
 use Rattle.decl_table.specs.Built.{IsBuilt}
 use Rattle.java_meaning.specs.Outcome.{Outcome, Gives, Threw, Bound}
 use Rattle.class_world.specs.declared.world.World.{World}

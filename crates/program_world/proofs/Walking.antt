@@ -1,9 +1,8 @@
 -- The declarations of a file and of a program, one behind the other.
-use Rattle.std.proofs.Common.{◌≡◌, ℕ, zero, suc, ◌+◌, ◌<◌, ◌≤◌, Bool, true, false, List, [], ◌∷◌, ◌++◌, map, length, drop, get_or, slice_get, Some, refl, sym, ap, ◌∙◌, arith, append_assoc, length-append}
-use Rattle.std.proofs.lemmas.List.{drop_more, drop_all, append-nil, length-map}
+use Rattle.std.proofs.Common.{◌≡◌, ℕ, zero, suc, ◌+◌, ◌<◌, ◌≤◌, Bool, List, [], ◌∷◌, ◌++◌, map, length, drop, get_or, slice_get, Some, refl, sym, ap, ◌∙◌, arith, append_assoc}
+use Rattle.std.proofs.lemmas.List.{drop_more, drop_all, length-map}
 use Rattle.java_tree.specs.declared.tree.TypeDecl as declared
 use Rattle.java_tree.specs.declared.tree.SourceUnit as declared_unit
-use Rattle.java_tree.specs.Plain.{TypeDecl, SourceUnit}
 use Rattle.java_tree.specs.View.{decl_plain, unit_plain}
 use Rattle.class_world.specs.declared.world.World.{World}
 use Rattle.type_names.specs.Known.{File}

@@ -14,6 +14,7 @@ use Rattle.class_world.specs.declared.world.JavaType.{JavaType, out-JavaType}
 use Rattle.class_world.specs.declared.world.JavaType.TheVariants as ty
 use Rattle.class_world.specs.declared.world.JavaType.TheOpen as form
 use Rattle.class_world.specs.declared.world.JavaType.TheOpen.{JavaType-F}
+use Rattle.class_world.specs.declared.world.JavaType.TheFolds.{fold-JavaType}
 use Rattle.class_world.specs.Types.{object_type}
 use Rattle.type_names.specs.declared.known.JavaNames.{JavaNames}
 use Rattle.type_names.specs.Known.{File, is_public_mod}
@@ -28,26 +29,34 @@ read p x = unwrap_or (type_of p x) ty.Null
 
 -- ---- supertypes
 
-abbrev pub reference_form : JavaType-F JavaType → Bool
-reference_form (form.Prim p) = false
-reference_form form.Null = false
-reference_form (form.Class c xs) = true
-reference_form (form.Var k) = true
-reference_form (form.Array y) = true
+-- What a type is as an argument: whether it is a reference type, and whether all arguments within it are (JLS 4.5.1; the grammar has no others).
+pub record Argument : Type 0 where
+  pub reference : Bool
+  pub whole : Bool
 
-abbrev pub is_reference : JavaType → Bool
-is_reference x = reference_form (out-JavaType x)
+abbrev pub passes : Argument → Bool
+passes a = a.reference && a.whole
 
--- a class type whose arguments are reference types (JLS 4.5.1; the grammar has no others)
-abbrev pub super_form : JavaType-F JavaType → Bool
-super_form (form.Prim p) = false
-super_form form.Null = false
-super_form (form.Class c xs) = list_all is_reference xs
-super_form (form.Var k) = false
-super_form (form.Array y) = false
+abbrev pub as_argument : JavaType-F Argument → Argument
+as_argument (form.Prim p) = record { reference = false; whole = true }
+as_argument form.Null = record { reference = false; whole = false }
+as_argument (form.Class c xs) = record { reference = true; whole = list_all passes xs }
+as_argument (form.Var k) = record { reference = true; whole = true }
+as_argument (form.Array x) = record { reference = true; whole = x.whole }
 
+abbrev pub argument : JavaType → Argument
+argument = fold-JavaType Argument as_argument
+
+abbrev pub class_form : JavaType-F JavaType → Bool
+class_form (form.Class c xs) = true
+class_form _ = false
+
+abbrev pub is_class : JavaType → Bool
+is_class x = class_form (out-JavaType x)
+
+-- a class type, the arguments of which are reference types at each depth
 abbrev pub is_super : JavaType → Bool
-is_super x = super_form (out-JavaType x)
+is_super x = is_class x && (argument x).whole
 
 -- the superclass of a class that writes none (JLS 8.1.4)
 abbrev pub implied_super : (interface : Bool) → (extends : List TypeExpr) → List JavaType

@@ -98,11 +98,7 @@ fn is_constructor(member: &Member) -> bool
     }
 }
 
-fn default_constructor(
-    alloc: Global,
-    owner: u32,
-    class: &TypeDecl,
-) -> Result<MethodInfo, NoMemory>
+fn default_constructor(alloc: Global, owner: u32, class: &TypeDecl) -> Result<MethodInfo, NoMemory>
     ensures { IfOk result (λ info. info ≡ spec.default_constructor owner (decl_plain class.now)) }
 {
     let mut mods = Items::new(alloc);

@@ -1,6 +1,7 @@
 //! The types that declarations write.
 
 ghost use Rattle.std.specs.Prelude.{◌≡◌, ◌++◌, map, filter, IfOk, OnOk};
+ghost use Rattle.std.specs.List.{list_all};
 ghost use Rattle.std.specs.Option.{option_map};
 ghost use Rattle.java_tree.specs.View.{decl_plain, param_plain, type_plain};
 ghost use Rattle.written_types.specs.Places.{Place, IsPlace};
@@ -113,24 +114,52 @@ fn push_supers(
     Ok(())
 }
 
-/// Whether a type can stand as a supertype: a class or interface with reference types as arguments (JLS 4.5.1).
-#[tactic(auto, using(crate::proofs::Supers::class_super))]
+/// Whether a type can stand as a supertype: a class or interface, with reference types as arguments at each depth (JLS 4.5.1).
 fn is_super(ty: &JavaType) -> bool
     ensures { result ≡ spec.is_super ty.now }
 {
-    let JavaType::Class(_, args) = ty else {
-        return false;
-    };
-    for arg in args.as_slice() {
-        if !is_reference(arg) {
+    is_class(ty) && is_whole(ty)
+}
+
+fn is_class(ty: &JavaType) -> bool
+    ensures { result ≡ spec.is_class ty.now }
+{
+    match ty {
+        JavaType::Class(_, _) => true,
+        JavaType::Prim(_) | JavaType::Null | JavaType::Var(_) | JavaType::Array(_) => false,
+    }
+}
+
+/// Whether all arguments within a type are reference types.
+#[cycle(whole)]
+#[tactic(auto, using(crate::proofs::Supers::primitive_whole, crate::proofs::Supers::null_whole, crate::proofs::Supers::variable_whole))]
+fn is_whole(ty: &JavaType) -> bool
+    ensures { result ≡ (spec.argument ty.now).whole }
+{
+    match ty {
+        JavaType::Prim(_) | JavaType::Var(_) => true,
+        JavaType::Null => false,
+        JavaType::Class(_, args) => are_whole(args.as_slice()),
+        JavaType::Array(element) => is_whole(element.get()),
+    }
+}
+
+/// Whether types are reference types, and all arguments within them.
+#[cycle(whole)]
+fn are_whole(args: &[JavaType]) -> bool
+    ensures { result ≡ list_all spec.passes (map spec.argument args.now) }
+{
+    for arg in args {
+        if !is_reference(arg) || !is_whole(arg) {
             return false;
         }
     }
     true
 }
 
+#[tactic(auto, using(crate::proofs::Supers::primitive_refers, crate::proofs::Supers::null_refers, crate::proofs::Supers::class_refers, crate::proofs::Supers::variable_refers, crate::proofs::Supers::array_refers))]
 fn is_reference(ty: &JavaType) -> bool
-    ensures { result ≡ spec.is_reference ty.now }
+    ensures { result ≡ (spec.argument ty.now).reference }
 {
     match ty {
         JavaType::Prim(_) | JavaType::Null => false,

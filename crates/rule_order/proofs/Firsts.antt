@@ -1,5 +1,5 @@
 -- How finished searches for the first broken rule go together.
-use Rattle.std.proofs.Common.{◌≡◌, ◌<◌, ◌≤◌, ◌⊎◌, inl, inr, Option, Some, None, ◌↔◌, ◌∙◌, subst, sym, arith}
+use Rattle.std.proofs.Common.{inl, inr, Option, Some, None, ◌↔◌, ◌∙◌, subst, sym, arith}
 use Rattle.rule_order.specs.declared.Breach.{Breach}
 use Rattle.rule_order.specs.First.{Breaches, Either, IsBefore, IsFirst, IsEarlier}
 

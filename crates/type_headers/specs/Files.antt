@@ -1,4 +1,4 @@
--- What is known of the types of one file.
+-- What is known of the types of one file. No header has the file's number, which is 0 here.
 use Rattle.std.specs.Prelude.{List, map}
 use Rattle.class_world.specs.declared.world.TypeInfo.{TypeInfo}
 use Rattle.type_names.specs.Known.{File}

@@ -2,6 +2,7 @@ use Rattle.std.proofs.Common.{◌≡◌, ◌+◌, ◌<◌, ◌∙◌, length, re
 use Rattle.std.proofs.lemmas.Option.{slice_get_read, slice_get_within}
 use Rattle.class_world.specs.declared.world.JavaType.TheVariants as ty
 use Rattle.class_world.specs.Climbs.{Collide, IsClassType, IsClimbing, IsDeclaredAbove, IsSuperBy}
+use Rattle.class_world.proofs.Searches.{direct_in}
 use Rattle.class_world.proofs.Climbs as by
 use Rattle.class_world.proofs.below_two.add_supers.Goals as goal
 
@@ -27,7 +28,7 @@ add-requires-clause-class c =
     let is = by.read_as c.loop-d.found.items c.args.at c.index-in-loop-d.result.now t there c.index-in-loop-d.ensures in
     let first = by.read_as c.args.found.now.items c.args.at c.index.result.now t c.requires.class.1 c.index.ensures in
     let above : IsDeclaredAbove w t c.in_ok-u.u = by.super_read w t c.index.result.now type.1.0 c.class_of.result type.1.1 items c.loop-d.d-index c.d-item.result c.in_ok-u.u type.1.2 first c.class_of.ensures
-    c.supers_of-d-items.ensures (slice_get_read items (length items) c.loop-d.d-index c.d-item.result refl c.loop-d-test.true c.d-item.is)
+    (direct_in w c.class_of.result items c.supers_of-d-items.ensures) (slice_get_read items (length items) c.loop-d.d-index c.d-item.result refl c.loop-d-test.true c.d-item.is)
     (subst (λ x. IsSuperBy w x c.d-item.result c.in_ok-u.u) is c.in_ok-u.ensures) in
     let class = by.class_within w c.requires.supers type.0.0 c.in_ok-u.u (by.above_over w c.requires.supers type.0.0 t c.in_ok-u.u type.0.1 above) in
     (class.0, class.1, class.2, subst (λ n. class.0 < n) (sym (c.loop-d.auto.places ∙ c.requires.size)) class.3)
@@ -43,7 +44,7 @@ returns-then-not-branch-clause-collide c = λ not u at.
     let is = by.read_as c.loop-d.found.items c.args.at c.index-in-loop-d.result.now t there c.index-in-loop-d.ensures in
     let first = by.read_as c.args.found.now.items c.args.at c.index.result.now t c.requires.class.1 c.index.ensures in
     let above : IsDeclaredAbove w t c.in_ok-u.u = by.super_read w t c.index.result.now type.1.0 c.class_of.result type.1.1 items c.loop-d.d-index c.d-item.result c.in_ok-u.u type.1.2 first c.class_of.ensures
-    c.supers_of-d-items.ensures (slice_get_read items (length items) c.loop-d.d-index c.d-item.result refl c.loop-d-test.true c.d-item.is)
+    (direct_in w c.class_of.result items c.supers_of-d-items.ensures) (slice_get_read items (length items) c.loop-d.d-index c.d-item.result refl c.loop-d-test.true c.d-item.is)
     (subst (λ x. IsSuperBy w x c.d-item.result c.in_ok-u.u) is c.in_ok-u.ensures) in
     let same : t ≡ u = cc (c.requires.class.1, at) in
     subst (λ t. Collide w t c.args.found.now.items) same
@@ -62,7 +63,7 @@ loop-d-preserved c =
     let at = slice_get_read items (length items) c.loop-d.d-index c.d-item.result refl c.loop-d-test.true c.d-item.is in
     let seen = subst (λ x. IsSuperBy w x c.d-item.result c.in_ok-u.u) is c.in_ok-u.ensures in
     let above : IsDeclaredAbove w t c.in_ok-u.u = by.super_read w t c.index.result.now type.1.0 c.class_of.result type.1.1 items c.loop-d.d-index c.d-item.result c.in_ok-u.u type.1.2 first c.class_of.ensures
-    c.supers_of-d-items.ensures at seen in
+    (direct_in w c.class_of.result items c.supers_of-d-items.ensures) at seen in
     let class = by.class_within w c.requires.supers type.0.0 c.in_ok-u.u (by.above_over w c.requires.supers type.0.0 t c.in_ok-u.u type.0.1 above) in
     record {
       placed = c.in_ok-add.ensures.placed c.if-not-branch.false;
@@ -82,4 +83,4 @@ returns-clause-climbs c = λ yes v at_v.
     let same : t ≡ v = cc (c.requires.class.1, at_v) in
     by.climbing_ends c.args.w.now v c.args.found.now.items c.loop-d.found.items items c.loop-d.d-index c.class_of.result type.1.1
     (sym same ∙ type.1.2 ∙ ap (λ g. ty.Class g type.1.1) (sym (c.class_of.ensures type.1.0 type.1.1 (first ∙ type.1.2)))) (c.loop-d.invariant.climbs v at_v) (omega arith)
-    (λ d h. (c.supers_of-d-items.ensures d).1 h)
+    (λ d h. (direct_in c.args.w.now c.class_of.result items c.supers_of-d-items.ensures d).1 h)

@@ -1,5 +1,5 @@
-use Rattle.class_world.proofs.Searches.{FinishedBefore}
+use Rattle.class_world.specs.Merged.{FinishedBefore}
 use Rattle.class_world.proofs.sequence.first_unfinished.Given as goal
 
-abbrev pub invariant-loop-d : goal.invariant-loop-d
-invariant-loop-d l = FinishedBefore l.finished l.d-items l.d-index
+abbrev pub invariant-loop-at : goal.invariant-loop-at
+invariant-loop-at l = FinishedBefore l.finished l.supers l.at

@@ -7,7 +7,8 @@ use Rattle.rule_order.proofs.Adding.{adds_both}
 use Rattle.rule_order.proofs.Lists.{some_append}
 use Rattle.written_types.specs.Breaks.{IllNamed}
 use Rattle.declared_types.specs.Rules.{member_types, NamesNoType, BreaksSuper}
-use Rattle.declared_types.specs.Looks.{HoldsSpelled, BreaksBehind}
+use Rattle.declared_types.specs.Spelling.{HoldsSpelled}
+use Rattle.declared_types.specs.Looks.{BreaksBehind}
 use Rattle.declared_types.proofs.Deciding.{spelled_none}
 use Rattle.declared_types.proofs.Clauses.{supers_add}
 use Rattle.declared_types.proofs.supers.note_decl.Goals as goal

@@ -3,7 +3,8 @@ use Rattle.std.proofs.lemmas.List.{take_all}
 use Rattle.java_tree.specs.View.{type_plain}
 use Rattle.rule_order.specs.Noted.{Adds}
 use Rattle.type_names.proofs.Held.{append_none}
-use Rattle.declared_types.specs.Looks.{HoldsSpelled, BreaksBehind}
+use Rattle.declared_types.specs.Spelling.{HoldsSpelled}
+use Rattle.declared_types.specs.Looks.{BreaksBehind}
 use Rattle.declared_types.proofs.Clauses.{behind_none, behind_next, before_next}
 use Rattle.declared_types.proofs.supers.note_supers.Goals as goal
 

@@ -3,7 +3,8 @@ use Rattle.java_tree.specs.Plain as t
 use Rattle.java_tree.specs.View.{type_plain}
 use Rattle.rule_order.specs.Noted.{Adds}
 use Rattle.written_types.specs.Places.{Place, IsPlace}
-use Rattle.declared_types.specs.Looks.{HoldsSpelled, BreaksBehind}
+use Rattle.declared_types.specs.Spelling.{HoldsSpelled}
+use Rattle.declared_types.specs.Looks.{BreaksBehind}
 use Rattle.declared_types.proofs.supers.note_supers.Given as goal
 
 abbrev pub invariant-loop-x : goal.invariant-loop-x

@@ -1,4 +1,4 @@
-use Rattle.std.proofs.Common.{ap, ◌∙◌}
+use Rattle.std.proofs.Common.{◌∙◌}
 use Rattle.java_tree.specs.View.{unit_plain, decl_plain}
 use Rattle.program_world.proofs.Adding.{type_added}
 use Rattle.program_world.proofs.types.push_type.Goals as goal

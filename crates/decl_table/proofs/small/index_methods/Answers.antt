@@ -3,8 +3,8 @@ use Rattle.java_tree.specs.Plain.{SourceUnit}
 use Rattle.class_world.specs.Members.{AreApart}
 use Rattle.java_typing.specs.Declarations.{NamesAreFree}
 use Rattle.decl_table.proofs.Found.{found_where, found_always}
-use Rattle.decl_table.proofs.build.index_methods.Goals as goal
-use Rattle.decl_table.proofs.build.index_methods.Goals.{then-not-branch-via-then-not-branch, then-not-branch-via-else-not-branch+then-not-names_are_free}
+use Rattle.decl_table.proofs.small.index_methods.Goals as goal
+use Rattle.decl_table.proofs.small.index_methods.Goals.{then-not-branch-via-then-not-branch, then-not-branch-via-else-not-branch+then-not-names_are_free}
 
 pub returns-then-not-branch-clause-broken : goal.returns-then-not-branch-clause-broken
 returns-then-not-branch-clause-broken c = λ e u hold. elim c.then-not-branch.branch [

@@ -38,7 +38,7 @@ pub enum BuildFault {
 }
 
 impl From<NoMemory> for BuildFault {
-    ghost use Rattle.decl_table.specs.declared.build.BuildFault.TheVariants as fault;
+    ghost use Rattle.decl_table.specs.declared.small.BuildFault.TheVariants as fault;
 
     ghost from_gives = { λ _ e. e ≡ fault.NoMemory };
 

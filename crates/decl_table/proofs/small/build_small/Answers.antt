@@ -14,8 +14,8 @@ use Rattle.decl_table.specs.Classes.{Numbers, HaveOwnNames}
 use Rattle.decl_table.specs.Numbered.{HaveSingleSupers}
 use Rattle.decl_table.proofs.Found.{found}
 use Rattle.decl_table.proofs.WorldFacts.{single_supers, to_own_names, from_own_names, few_methods, lists_methods}
-use Rattle.decl_table.proofs.build.build_small.Goals as goal
-use Rattle.decl_table.proofs.build.build_small.Goals.{then-not-are_few-via-then-not-are_few, then-not-are_few-via-else-not-are_few+then-not-none_is_java}
+use Rattle.decl_table.proofs.small.build_small.Goals as goal
+use Rattle.decl_table.proofs.small.build_small.Goals.{then-not-are_few-via-then-not-are_few, then-not-are_few-via-else-not-are_few+then-not-none_is_java}
 
 pub returns-then-not-are_few-clause-broken : goal.returns-then-not-are_few-clause-broken
 returns-then-not-are_few-clause-broken c = λ e hold. elim c.then-not-are_few.branch [
