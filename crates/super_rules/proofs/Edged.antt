@@ -6,7 +6,7 @@ use Rattle.std.proofs.lemmas.Option.{slice_get_within, slice_get-map}
 use Rattle.std.proofs.lemmas.List.Elements.{Contains-append_left, Contains-append_right, Contains-push_cases}
 use Rattle.java_tree.specs.declared.tree.TypeExpr as code
 use Rattle.java_tree.specs.declared.tree.TypeExpr.{out-TypeExpr}
-use Rattle.java_tree.specs.Plain.{TypeExpr, TypeDecl}
+use Rattle.java_tree.specs.Plain.{TypeDecl}
 use Rattle.java_tree.specs.View.{type_plain, decl_plain}
 use Rattle.java_tree.proofs.Views.{type_out}
 use Rattle.class_world.specs.declared.world.TypeInfo.{TypeInfo}
@@ -25,8 +25,8 @@ use Rattle.written_types.specs.Walk.{head_named}
 use Rattle.written_types.proofs.Heads.{named_type, type_named}
 use Rattle.type_headers.specs.Declared.{Declaration, declarations, place_of, written_supers}
 use Rattle.super_rules.specs.declared.entries.Entry.{Entry}
-use Rattle.super_rules.specs.Rules.{Declares, IsBuiltInSuper, IsSuperOf, WritesSuper, SaysSuperclass}
-use Rattle.super_rules.specs.Looks.{IsEntry, AreEntries, NamesOneOf, SaysClass, SaysOneOf, IsRow, IsLed}
+use Rattle.super_rules.specs.Rules.{Declares, IsBuiltInSuper}
+use Rattle.super_rules.specs.Looks.{IsEntry, NamesOneOf, SaysOneOf, IsRow, IsLed}
 use Rattle.super_rules.proofs.Files.{taken_next}
 
 -- what holds of one of them and the number

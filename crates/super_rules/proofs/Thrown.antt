@@ -1,5 +1,5 @@
 -- Types of throws clauses.
-use Rattle.std.proofs.Common.{◌≡◌, ℕ, Bool, true, false, not, List, [], ◌∷◌, ◌++◌, Option, Some, ◌⊎◌, inl, inr, ◌↔◌, refl, sym, ap, ◌∙◌, subst}
+use Rattle.std.proofs.Common.{◌≡◌, ℕ, Bool, true, false, not, List, [], ◌∷◌, ◌++◌, Option, Some, inl, inr, ◌↔◌, refl, sym, ap, ◌∙◌, subst}
 use Rattle.std.specs.Prelude.{slice_get, IsTrue, Decides}
 use Rattle.java_tree.specs.declared.tree.TypeExpr as code
 use Rattle.java_tree.specs.declared.tree.TypeExpr.{out-TypeExpr}
@@ -13,7 +13,6 @@ use Rattle.rule_order.proofs.Adding.{adds_noted}
 use Rattle.rule_order.proofs.Lists.{some_none, some_more, some_append}
 use Rattle.type_names.specs.declared.known.JavaNames.{JavaNames}
 use Rattle.type_names.specs.Known.{File}
-use Rattle.written_types.specs.Places.{Place}
 use Rattle.written_types.specs.Breaks.{node_of, head_of, NamesVariable, NamesType}
 use Rattle.written_types.specs.declared.scope.Named.{Named}
 use Rattle.written_types.specs.declared.scope.Named.TheVariants as named

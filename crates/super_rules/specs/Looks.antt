@@ -1,7 +1,6 @@
 -- What the parts of the search look for.
 use Rattle.std.specs.Prelude.{◌≡◌, ◌≢◌, ℕ, ◌+◌, ◌<◌, ◌≤◌, ◌⊎◌, ◌↔◌, Bool, true, false, List, [], Some, Contains, map, slice_get, length}
-use Rattle.java_tree.specs.declared.tree.Head.{Head}
-use Rattle.java_tree.specs.Plain.{TypeExpr, TypeDecl}
+use Rattle.java_tree.specs.Plain.{TypeExpr}
 use Rattle.java_tree.specs.View.{decl_plain}
 use Rattle.class_world.specs.declared.world.TypeInfo.{TypeInfo}
 use Rattle.class_world.specs.declared.world.JavaType.{JavaType}

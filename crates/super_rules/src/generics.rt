@@ -1,6 +1,6 @@
 //! S11: user types below generic ones.
 
-ghost use Rattle.std.specs.Prelude.{◌≡◌, ℕ, ◌+◌, ◌⊎◌, ◌↔◌, List, true, Some, length, map, slice_get, IsTrue, IfOk};
+ghost use Rattle.std.specs.Prelude.{◌≡◌, ℕ, ◌↔◌, List, true, Some, length, map, slice_get, IsTrue, IfOk};
 ghost use Rattle.java_tree.specs.View.{type_plain, decl_plain, unit_plain};
 ghost use Rattle.rule_order.specs.First.{IsFirst};
 ghost use Rattle.type_names.specs.declared.known.JavaNames.{JavaNames};

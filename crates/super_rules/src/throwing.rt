@@ -1,7 +1,7 @@
 //! DR2 at throws clauses, DR3, and DR12 on types.
 
-ghost use Rattle.std.specs.Prelude.{◌≡◌, ℕ, ◌+◌, ◌⊎◌, ◌↔◌, List, Some, length, map, slice_get, IsTrue, IfOk};
-ghost use Rattle.java_tree.specs.View.{type_plain, decl_plain, unit_plain, member_plain};
+ghost use Rattle.std.specs.Prelude.{◌≡◌, ◌↔◌, List, length, map, IsTrue, IfOk};
+ghost use Rattle.java_tree.specs.View.{type_plain, unit_plain, member_plain};
 ghost use Rattle.rule_order.specs.First.{IsFirst};
 ghost use Rattle.type_names.specs.declared.known.JavaNames.{JavaNames};
 ghost use Rattle.type_names.specs.Known.{File, files_of};
@@ -23,7 +23,7 @@ use std::alloc::Global;
 use type_names::TypeNames;
 use written_types::{Named, Scope};
 
-/// The first of DR2 at throws clauses, DR3 at types, and DR12 at types, with the number behind the DR: a type of a throws clause is Throwable or a class below it (JLS 8.4.6), no type is above itself (8.1.4, 9.1.3), and no type with type parameters is below Throwable (8.1.2). The names are those of the program of these user files and library files, and `types` has what is known of its types, by number. Takes time for the written types. `NoMemory` also where there are more than 2^32 files.
+/// The first of DR2 at throws clauses, DR3 at types, and DR12 at types, with the number behind the DR: a type of a throws clause is Throwable or a class below it (JLS 8.4.6), no type is above itself (8.1.4, 9.1.3), and no type with type parameters is below Throwable (8.1.2). The names are those of the program of these user files and library files, and `types` has what is known of its types, by number. Takes time for the written types of supertypes and throws clauses. `NoMemory` also where there are more than 2^32 files, or type parameters of one type.
 pub fn first_super_breach(
     alloc: Global,
     names: &TypeNames,

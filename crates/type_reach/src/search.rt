@@ -1,7 +1,6 @@
 //! A search that finds which nodes lead to each other.
 
-ghost use Rattle.std.specs.Prelude.{◌≡◌, ℕ, ◌+◌, ◌<◌, ◌≤◌, ◌⊎◌, ◌↔◌, List, [], ◌∷◌, ◌++◌, length, slice_get, slice_set, Some, true, false, Contains, IsTrue, IfOk, OnOk};
-ghost use Rattle.type_reach.specs.Sources.{HasTarget};
+ghost use Rattle.std.specs.Prelude.{◌≡◌, ℕ, ◌<◌, ◌≤◌, ◌⊎◌, ◌↔◌, List, [], ◌∷◌, ◌++◌, length, slice_get, slice_set, Some, false, IsTrue, IfOk, OnOk};
 ghost use Rattle.type_reach.specs.Paths.{IsCycle, IsSearch, IsSet, KeepsMet, Searches, work};
 ghost use Rattle.type_reach.specs.declared.search.Stage.TheVariants as stage;
 
@@ -9,7 +8,7 @@ use crate::Graph;
 use java_tree::NoMemory;
 use std::alloc::Global;
 
-/// How far a search has come with a node: it was not met, it is open and has a place in the path, or it is done and on a cycle or not.
+/// How far a search has come with a node: not met; open, with its place in the path; or done, and on a cycle or not.
 #[derive(Clone, Copy)]
 pub(crate) enum Stage {
     New,
@@ -17,14 +16,14 @@ pub(crate) enum Stage {
     Done(bool),
 }
 
-/// A part of the path, whose nodes lead to each other: where it begins among the open nodes, and where its targets begin among those that are still to be followed.
+/// A part of the path, whose nodes lead to each other: the place of its first node in the path, and of its first target among those that are still to be followed.
 #[derive(Clone, Copy)]
 pub(crate) struct Part {
     pub(crate) node: usize,
     pub(crate) target: usize,
 }
 
-/// The open nodes make a path: each leads to those behind it. The path is cut into parts.
+/// The open nodes in order are a path: each leads to those behind it. The path is cut into parts, and so are the targets that its nodes still have to follow.
 #[derive(Drop)]
 pub(crate) struct Search {
     pub(crate) stages: Vec<Stage>,
@@ -93,7 +92,7 @@ impl Search {
         Ok(())
     }
 
-    /// One step with the last part, which has been taken from the parts.
+    /// One step with the last part, which has been taken from the parts: it follows a target, joins the part before it, or is finished.
     fn follow(&mut self, graph: &Graph, part: Part) -> Result<(), NoMemory>
         requires { IsSearch graph.now self.old.stages.items self.old.path.items self.old.targets.items (self.old.parts.items ++ part ∷ []) }
         ensures search { OnOk result (Searches graph.now self.new) }

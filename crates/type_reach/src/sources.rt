@@ -1,7 +1,6 @@
 //! A graph with its edges turned round.
 
-ghost use Rattle.std.specs.Prelude.{◌≡◌, ℕ, ◌<◌, length, slice_get, ◌↔◌, ◌⊎◌, IfOk, OnOk, Contains};
-ghost use Rattle.type_reach.specs.Reach.{IsEdge};
+ghost use Rattle.std.specs.Prelude.{◌≡◌, ℕ, ◌<◌, length, ◌↔◌, ◌⊎◌, IfOk, OnOk, Contains};
 ghost use Rattle.type_reach.specs.Sources.{HasTarget, IsReverse};
 
 use crate::Graph;

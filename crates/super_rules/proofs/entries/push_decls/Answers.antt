@@ -1,7 +1,6 @@
-use Rattle.std.proofs.Common.{◌≡◌, ◌++◌, map, refl, sym, ap, subst, ◌∙◌}
+use Rattle.std.proofs.Common.{◌++◌, map, refl, sym, ap, subst, ◌∙◌}
 use Rattle.std.proofs.lemmas.List.{take_all}
 use Rattle.java_tree.specs.Plain.{SourceUnit}
-use Rattle.java_tree.specs.View.{decl_plain}
 use Rattle.type_names.proofs.Held.{append_none}
 use Rattle.written_types.specs.Places.{place_in}
 use Rattle.super_rules.specs.Looks.{AreEntries}

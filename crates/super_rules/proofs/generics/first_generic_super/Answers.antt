@@ -1,8 +1,8 @@
-use Rattle.std.proofs.Common.{map, ap, subst, sym, ◌∙◌}
+use Rattle.std.proofs.Common.{map, subst, sym}
 use Rattle.java_tree.specs.View.{unit_plain}
 use Rattle.type_names.specs.Known.{files_of}
 use Rattle.super_rules.specs.Rules.{IsGenericAbove}
-use Rattle.super_rules.specs.Looks.{AreFlags, HasEntries}
+use Rattle.super_rules.specs.Looks.{AreFlags}
 use Rattle.super_rules.proofs.Files.{has_entries}
 use Rattle.super_rules.proofs.generics.first_generic_super.Goals as goal
 

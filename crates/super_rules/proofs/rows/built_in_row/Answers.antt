@@ -1,4 +1,4 @@
-use Rattle.std.proofs.Common.{◌≡◌, ◌++◌, ◌∷◌, [], List, ℕ, ◌⊎◌, inl, inr, map, take, refl, sym, ap, subst, ◌∙◌}
+use Rattle.std.proofs.Common.{List, ◌⊎◌, inl, inr, map, refl, ap, subst, ◌∙◌}
 use Rattle.std.specs.Prelude.{Contains}
 use Rattle.std.proofs.lemmas.List.{take_all, map-id}
 use Rattle.class_world.specs.declared.world.JavaType.{JavaType}

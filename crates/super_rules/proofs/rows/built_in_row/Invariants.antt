@@ -1,4 +1,4 @@
-use Rattle.std.proofs.Common.{ℕ, ◌⊎◌, map, take}
+use Rattle.std.proofs.Common.{◌⊎◌, map, take}
 use Rattle.class_world.specs.declared.world.JavaType.{JavaType}
 use Rattle.super_rules.specs.Looks.{IsRow}
 use Rattle.super_rules.proofs.Edged.{OneOf, IsClassOf}

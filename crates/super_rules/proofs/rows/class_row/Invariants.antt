@@ -1,4 +1,4 @@
-use Rattle.std.proofs.Common.{ℕ, ◌⊎◌, map, take}
+use Rattle.std.proofs.Common.{◌⊎◌, map, take}
 use Rattle.java_tree.specs.View.{type_plain}
 use Rattle.written_types.specs.Places.{Place, IsPlace}
 use Rattle.super_rules.specs.Looks.{IsRow, SaysOneOf}

@@ -1,8 +1,6 @@
 use Rattle.std.proofs.Common.{sym, subst}
 use Rattle.std.proofs.lemmas.Result.{IfOk-weaker}
-use Rattle.class_world.specs.declared.world.TypeInfo.{TypeInfo}
 use Rattle.super_rules.specs.Looks.{IsRow, IsDrawn}
-use Rattle.super_rules.specs.declared.rows.Edges.TheVariants as edges
 use Rattle.super_rules.proofs.rows.drawn_row.Goals as goal
 
 pub returns-in-All : goal.returns-in-All

@@ -1,4 +1,4 @@
-use Rattle.std.proofs.Common.{◌≡◌, ℕ, ◌⊎◌, inl, inr, true, false, refl, sym, ◌∙◌}
+use Rattle.std.proofs.Common.{◌≡◌, ℕ, inl, inr, refl, sym, ◌∙◌}
 use Rattle.written_types.specs.declared.scope.Named.TheVariants as named
 use Rattle.type_headers.specs.Declared.{place_of}
 use Rattle.super_rules.proofs.Thrown.{thrown_variable, thrown_type, thrown_other}

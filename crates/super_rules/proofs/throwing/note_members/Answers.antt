@@ -1,4 +1,4 @@
-use Rattle.std.proofs.Common.{◌≡◌, map, take, sym, subst}
+use Rattle.std.proofs.Common.{map, take, sym, subst}
 use Rattle.std.proofs.lemmas.List.{take_all}
 use Rattle.java_tree.specs.View.{type_plain, member_plain}
 use Rattle.rule_order.specs.Noted.{At, SomeOf, Adds}

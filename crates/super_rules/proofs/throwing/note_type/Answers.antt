@@ -1,5 +1,4 @@
-use Rattle.std.proofs.Common.{◌↔◌, ◌≡◌, [], true, map, subst, ◌∙◌}
-use Rattle.std.specs.Prelude.{slice_get, IsTrue}
+use Rattle.std.proofs.Common.{map, subst}
 use Rattle.java_tree.specs.View.{member_plain}
 use Rattle.rule_order.specs.Noted.{SomeOf, Adds}
 use Rattle.super_rules.specs.Rules.{ThrowsBreaches}
