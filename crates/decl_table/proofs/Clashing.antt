@@ -27,8 +27,8 @@ pub declared_clash : (built : BuiltIns) (j : JavaNames) (fs : List File) → Are
     → (k : ℕ) × (x : Declaration) × (c ≡ 16 + k) × (slice_get (declarations fs) k ≡ Some x) × ((info : TypeInfo) × (slice_get (world_of built j fs).types c ≡ Some info) × (info.node ≡ Some x.decl.node.id))
 declared_clash built j fs bases c below =
     elim (type_at built j fs c below.0 bases.count below.1) [
-      inl h ↦ absurd (not_below_two built.types (world_of built j fs) bases (λ i info e. get_front built.types _ i info e) c (let low = slice_get_within built.types c below.0 h in omega (arith, low, bases.count)) below)
-    | inr h ↦ (h.0, h.1, h.2, h.3, (below.0, below.1, ap (λ (i : TypeInfo). i.node) h.4.3))
+      | inl h ↦ absurd (not_below_two built.types (world_of built j fs) bases (λ i info e. get_front built.types _ i info e) c (let low = slice_get_within built.types c below.0 h in omega (arith, low, bases.count)) below)
+      | inr h ↦ (h.0, h.1, h.2, h.3, (below.0, below.1, ap (λ (i : TypeInfo). i.node) h.4.3))
     ]
 
 node_here : (w : World) (c : ℕ) (info : TypeInfo) → slice_get w.types c ≡ Some info → node_at w c ≡ info.node

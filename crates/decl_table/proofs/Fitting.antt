@@ -52,8 +52,8 @@ meant_low j fs f x c e =
     let two = first_seen x (is_beside f) types in
     let three = first_seen x (is_on_demand j f) types in
     elim (or_parts one (option_or two three) c e) [
-      inl a ↦ seen_low x (is_imported f) types c a
-    | inr rest ↦ elim (or_parts two three c rest) [ inl b ↦ seen_low x (is_beside f) types c b | inr b ↦ seen_low x (is_on_demand j f) types c b ]
+      | inl a ↦ seen_low x (is_imported f) types c a
+      | inr rest ↦ elim (or_parts two three c rest) [ inl b ↦ seen_low x (is_beside f) types c b | inr b ↦ seen_low x (is_on_demand j f) types c b ]
     ]
 
 pub get_there : {A : Type 0} (xs : List A) (k : ℕ) → k < length xs → (x : A) × (slice_get xs k ≡ Some x)

@@ -53,8 +53,8 @@ name_at j fs f n c e =
     let two = first_seen n (is_beside f) types in
     let three = first_seen n (is_on_demand j f) types in
     elim (or_parts one (option_or two three) c e) [
-      inl a ↦ seen_at n (is_imported f) types c a
-    | inr rest ↦ elim (or_parts two three c rest) [ inl b ↦ seen_at n (is_beside f) types c b | inr b ↦ seen_at n (is_on_demand j f) types c b ]
+      | inl a ↦ seen_at n (is_imported f) types c a
+      | inr rest ↦ elim (or_parts two three c rest) [ inl b ↦ seen_at n (is_beside f) types c b | inr b ↦ seen_at n (is_on_demand j f) types c b ]
     ]
 
 -- ---- the declared types in both lists
@@ -81,17 +81,17 @@ one_there o x y e f = cc (e, f)
 pub names_generics : (built : List TypeInfo) (j : JavaNames) (fs : List File) → AreBases built → NamesGenerics (headers built fs) j fs
 names_generics built j fs bases f n c info mean there some =
     elim (get_either built (map header (declarations fs)) c info there) [
-      inl h ↦ absurd (let none = (bases.each c info h).0 in omega (arith, none, some))
-    | inr h ↦ declared h.0 (omega (arith, h.1, bases.count)) (get_mapped header (declarations fs) h.0 info h.2) (name_at j fs f n c mean)
+      | inl h ↦ absurd (let none = (bases.each c info h).0 in omega (arith, none, some))
+      | inr h ↦ declared h.0 (omega (arith, h.1, bases.count)) (get_mapped header (declarations fs) h.0 info h.2) (name_at j fs f n c mean)
     ]
   where
     declared : (k : ℕ) → c ≡ 16 + k → (x : Declaration) × (slice_get (declarations fs) k ≡ Some x) × (header x ≡ info) → HasNameAt (types_of j fs) c n → info.name ≡ n
     declared k is x t =
         let front : length (map (built_in_type j) (numbers_below 16)) ≡ 16 = length-map (numbers_below 16) (built_in_type j) in
         elim (get_either (map (built_in_type j) (numbers_below 16)) (flat_map types_in fs) c t.0 t.1) [
-          inl low ↦ absurd (let within = slice_get_within (map (built_in_type j) (numbers_below 16)) c t.0 low in omega (arith, within, front, is))
-        | inr h ↦ (let same : h.0 ≡ k = omega (arith, h.1, front, is) in
-            let at = get_mapped known (declarations fs) k t.0 (subst (λ ts. slice_get ts k ≡ Some t.0) (known_list 0 fs) (subst (λ m. slice_get (flat_map types_in fs) m ≡ Some t.0) same h.2)) in
-            let one : at.0 ≡ x.0 = one_there (slice_get (declarations fs) k) at.0 x.0 at.1 x.1 in
-            ap (λ (v : TypeInfo). v.name) (sym x.2) ∙ ap (λ (y : Declaration). y.decl.name) (sym one) ∙ ap (λ (v : KnownType). v.name) at.2 ∙ t.2)
+          | inl low ↦ absurd (let within = slice_get_within (map (built_in_type j) (numbers_below 16)) c t.0 low in omega (arith, within, front, is))
+          | inr h ↦ (let same : h.0 ≡ k = omega (arith, h.1, front, is) in
+              let at = get_mapped known (declarations fs) k t.0 (subst (λ ts. slice_get ts k ≡ Some t.0) (known_list 0 fs) (subst (λ m. slice_get (flat_map types_in fs) m ≡ Some t.0) same h.2)) in
+              let one : at.0 ≡ x.0 = one_there (slice_get (declarations fs) k) at.0 x.0 at.1 x.1 in
+              ap (λ (v : TypeInfo). v.name) (sym x.2) ∙ ap (λ (y : Declaration). y.decl.name) (sym one) ∙ ap (λ (v : KnownType). v.name) at.2 ∙ t.2)
         ]

@@ -116,13 +116,33 @@ written_super built j fs bases right k x at s (i, y, there, says, super) =
     let named = written.0 in
     let known = fits.known named.0 class.0 named.3 in
     let head = map_some (λ (i : TypeInfo). i.params) (slice_get (headers built.types fs) class.0) known.0.params known.2 in
-    let same : known.0 ≡ parts.0 = one_there _ known.0 parts.0 known.1 parts.1 in
-    (over, (class.0, class.1, parts.0, class.2, parts.1, elim parts.2 [
-      inr count ↦ count
-    | inl none ↦ ap length none ∙ sym (zero_if parts.0.params (λ some. right (record { node = (node_of y).id; rule = 2 })
-        (x, contains_at (declarations fs) k x at, inr (i, y, there, (refl, refl,
-        inr (inl (class.0, named, (head.0, head.1, inr (inr (subst (λ n. 0 < n) (sym (head.2 ∙ ap (λ (i : TypeInfo). i.params) same)) some, written.1 none))))))))))
-    ]))
+    let same : known.0 ≡ parts.0 = one_there _ known.0 parts.0 known.1 parts.1 in (
+      over,
+      (
+        class.0,
+        class.1,
+        parts.0,
+        class.2,
+        parts.1,
+        elim parts.2 [
+          | inr count ↦ count
+          | inl none ↦ ap length none ∙ sym (zero_if parts.0.params (λ some. right (record { node = (node_of y).id; rule = 2 }) (
+            x,
+            contains_at (declarations fs) k x at,
+            inr (
+              i,
+              y,
+              there,
+              (
+                refl,
+                refl,
+                inr (inl (class.0, named, (head.0, head.1, inr (inr (subst (λ n. 0 < n) (sym (head.2 ∙ ap (λ (i : TypeInfo). i.params) same)) some, written.1 none))))),
+              ),
+            ),
+          )))
+        ],
+      ),
+    )
   where
     zero_if : (n : ℕ) → (0 < n → ⊥) → n ≡ 0
     zero_if zero not = refl
@@ -137,8 +157,8 @@ each_super : (P : ℕ → JavaType → Type 0) (built : BuiltIns) (j : JavaNames
     → (c : ℕ) (info : TypeInfo) (d : JavaType) → slice_get (world_of built j fs).types c ≡ Some info → IsDirectSuper (world_of built j fs) c d → P info.params d
 each_super P built j fs bases bare written c info d at (own, there, k, e) =
     elim (type_at built j fs c info bases.count at) [
-      inl h ↦ base h
-    | inr h ↦ declared h.0 h.1 h.3 h.4
+      | inl h ↦ base h
+      | inr h ↦ declared h.0 h.1 h.3 h.4
     ]
   where
     same : slice_get info.supers k ≡ Some d
@@ -160,16 +180,16 @@ each_super P built j fs bases bare written c info d at (own, there, k, e) =
     declared m x there is =
         subst (λ n. P n d) (sym (ap (λ (i : TypeInfo). i.params) is.3))
         (elim (super_at (place_among built j fs x) x.decl k d (sym (ap (λ (v : TypeInfo). slice_get v.supers k) is.3) ∙ same)) [
-          inl top ↦ subst (P (length x.decl.params)) (sym top) (object (length x.decl.params))
-        | inr text ↦ written m x there d text
+          | inl top ↦ subst (P (length x.decl.params)) (sym top) (object (length x.decl.params))
+          | inr text ↦ written m x there d text
         ])
 
 top_bare : (built : BuiltIns) (j : JavaNames) (fs : List File) → AreBases built.types → (info : TypeInfo) → slice_get (world_of built j fs).types 0 ≡ Some info
     → (info.params ≡ 0) × (info.supers ≡ [])
 top_bare built j fs bases info e =
     elim (type_at built j fs 0 info bases.count e) [
-      inl h ↦ (let base = bases.each 0 info h in (base.0, none_above base info.supers refl))
-    | inr h ↦ absurd (omega (arith, h.2))
+      | inl h ↦ (let base = bases.each 0 info h in (base.0, none_above base info.supers refl))
+      | inr h ↦ absurd (omega (arith, h.2))
     ]
   where
     none_above : IsBase 0 info → (supers : List JavaType) → info.supers ≡ supers → supers ≡ []

@@ -32,10 +32,10 @@ super_edge : (built : BuiltIns) (j : JavaNames) (fs : List File) → AreBases bu
     → IsSuperOf j fs (headers built.types fs) c g ⊎ (g ≡ 0)
 super_edge built j fs bases c g args (info, at, k, there) =
     elim (type_at built j fs c info bases.count at) [
-      inl h ↦ inl (inl (let low = slice_get_within built.types c info h in omega (arith, low, bases.count), info, get_front built.types _ c info h, args, contains_at info.supers k (ty.Class g args) there))
-    | inr h ↦ elim (super_at (place_among built j fs h.1) h.1.decl k (ty.Class g args) (sym (ap (λ (v : TypeInfo). slice_get v.supers k) h.4.3) ∙ there)) [
-        inl top ↦ inr (same_class g 0 args [] top).0
-      | inr (i, y, here, says, super) ↦ inl (inr (h.1, (h.0, h.2, h.3), y, contains_at _ i y here, (class_written (place_among built j fs h.1) y g args says).0))
+      | inl h ↦ inl (inl (let low = slice_get_within built.types c info h in omega (arith, low, bases.count), info, get_front built.types _ c info h, args, contains_at info.supers k (ty.Class g args) there))
+      | inr h ↦ elim (super_at (place_among built j fs h.1) h.1.decl k (ty.Class g args) (sym (ap (λ (v : TypeInfo). slice_get v.supers k) h.4.3) ∙ there)) [
+        | inl top ↦ inr (same_class g 0 args [] top).0
+        | inr (i, y, here, says, super) ↦ inl (inr (h.1, (h.0, h.2, h.3), y, contains_at _ i y here, (class_written (place_among built j fs h.1) y g args says).0))
       ]
     ]
 
@@ -44,10 +44,10 @@ edge_low : (built : BuiltIns) (j : JavaNames) (fs : List File) → AreBases buil
 edge_low built j fs bases c g lt (inr (x, (k, is, at), s, within, named)) = absurd (omega (arith, lt, is))
 edge_low built j fs bases c g lt (inl (low, info, at, args, (k, within, there))) =
     elim (get_either built.types _ c info at) [
-      inl h ↦ (let p = (bases.each c info h).1 k (ty.Class g args) (at_place info.supers k (ty.Class g args) within there) in
-        let is = same_class g p.0 args [] p.2 in
-        omega (arith, p.1, is.0))
-    | inr h ↦ absurd (omega (arith, lt, h.1, bases.count))
+      | inl h ↦ (let p = (bases.each c info h).1 k (ty.Class g args) (at_place info.supers k (ty.Class g args) within there) in
+          let is = same_class g p.0 args [] p.2 in
+          omega (arith, p.1, is.0))
+      | inr h ↦ absurd (omega (arith, lt, h.1, bases.count))
     ]
   where
     at_place : {A : Type 0} (xs : List A) (k : ℕ) (x : A) → k < length xs → get_or xs k x ≡ x → slice_get xs k ≡ Some x
@@ -134,8 +134,8 @@ pub none_rises : (built : BuiltIns) (j : JavaNames) (fs : List File) → AreBase
 none_rises built j fs bases none c itself =
     let above = rises built j fs bases c itself in
     elim (type_at built j fs c itself.2.0 bases.count itself.2.1) [
-      inl h ↦ (let lt = slice_get_within built.types c itself.2.0 h in
-        let low = above_low built j fs bases c c (omega (arith, lt, bases.count)) above in
-        omega (arith, low))
-    | inr h ↦ none (record { node = h.1.decl.node.id; rule = 3 }) (inr (inl (c, h.1, (h.0, h.2, h.3), (refl, refl, above))))
+      | inl h ↦ (let lt = slice_get_within built.types c itself.2.0 h in
+          let low = above_low built j fs bases c c (omega (arith, lt, bases.count)) above in
+          omega (arith, low))
+      | inr h ↦ none (record { node = h.1.decl.node.id; rule = 3 }) (inr (inl (c, h.1, (h.0, h.2, h.3), (refl, refl, above))))
     ]

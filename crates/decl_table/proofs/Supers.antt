@@ -49,16 +49,16 @@ pub type_at : (built : BuiltIns) (j : JavaNames) (fs : List File) (c : ℕ) (inf
     → (slice_get built.types c ≡ Some info) ⊎ ((k : ℕ) × (x : Declaration) × (c ≡ 16 + k) × (slice_get (declarations fs) k ≡ Some x) × IsInfoOf (place_among built j fs) x info)
 type_at built j fs c info sixteen e =
     elim (get_either built.types (infos_from (place_among built j fs) 16 (length built.methods) (length built.fields) (declarations fs)) c info e) [
-      inl h ↦ inl h
-    | inr h ↦ (let at = info_at (place_among built j fs) (declarations fs) 16 (length built.methods) (length built.fields) h.0 info h.2 in
-        inr (h.0, at.0, omega (arith, h.1, sixteen), at.1, at.2))
+      | inl h ↦ inl h
+      | inr h ↦ (let at = info_at (place_among built j fs) (declarations fs) 16 (length built.methods) (length built.fields) h.0 info h.2 in
+          inr (h.0, at.0, omega (arith, h.1, sixteen), at.1, at.2))
     ]
 
 pub same_params : (built : BuiltIns) (j : JavaNames) (fs : List File) → HaveParams (headers built.types fs) (world_of built j fs)
 same_params built j fs c info e =
     elim (get_either built.types (map header (declarations fs)) c info e) [
-      inl h ↦ (info, get_front built.types _ c info h, refl)
-    | inr h ↦ declared h.0 h.1 (get_mapped header (declarations fs) h.0 info h.2)
+      | inl h ↦ (info, get_front built.types _ c info h, refl)
+      | inr h ↦ declared h.0 h.1 (get_mapped header (declarations fs) h.0 info h.2)
     ]
   where
     declared : (k : ℕ) → c ≡ length built.types + k → (x : Declaration) × (slice_get (declarations fs) k ≡ Some x) × (header x ≡ info)
@@ -95,8 +95,8 @@ implied_object false (x ∷ xs) k s e = absurd (cc e)
 pub super_at : (p : Place) (d : TypeDecl) (k : ℕ) (s : JavaType) → slice_get (supers_of p d) k ≡ Some s → (s ≡ object_type) ⊎ IsWrittenSuper p d s
 super_at p d k s e =
     elim (get_either (implied_super d.interface d.extends) (filter is_super (map (read p) (written_supers d))) k s e) [
-      inl h ↦ inl (implied_object d.interface d.extends k s h)
-    | inr h ↦ (let passed = get_filtered is_super (map (read p) (written_supers d)) h.0 s h.2 in
-        let text = get_mapped (read p) (written_supers d) passed.0 s passed.1 in
-        inr (passed.0, text.0, text.1, read_some p text.0 s text.2 passed.2, passed.2))
+      | inl h ↦ inl (implied_object d.interface d.extends k s h)
+      | inr h ↦ (let passed = get_filtered is_super (map (read p) (written_supers d)) h.0 s h.2 in
+          let text = get_mapped (read p) (written_supers d) passed.0 s passed.1 in
+          inr (passed.0, text.0, text.1, read_some p text.0 s text.2 passed.2, passed.2))
     ]

@@ -20,9 +20,9 @@ loop-info-preserved c = λ j fs f stands at n.
     let seen = c.is_seen.ensures j fs f stands at in
     let old = c.loop-info.invariant j fs f stands at n in
     elim c.if-is_seen.branch [
-    | then-is_seen+in_ok-add w ↦
-      ap (λ g. is_generic g n) w.generics-is ∙ w.in_ok-add.ensures.added n ∙ ap (λ o. same || o) old ∙ seen_step same before fits (sym seen ∙ w.if-is_seen.true) ∙ sym more
-    | else-is_seen w ↦ ap (λ g. is_generic g n) w.generics-is ∙ old ∙ unseen_step same before fits (sym seen ∙ w.if-is_seen.false) ∙ sym more
+      | then-is_seen+in_ok-add w ↦
+          ap (λ g. is_generic g n) w.generics-is ∙ w.in_ok-add.ensures.added n ∙ ap (λ o. same || o) old ∙ seen_step same before fits (sym seen ∙ w.if-is_seen.true) ∙ sym more
+      | else-is_seen w ↦ ap (λ g. is_generic g n) w.generics-is ∙ old ∙ unseen_step same before fits (sym seen ∙ w.if-is_seen.false) ∙ sym more
     ]
 
 pub returns : goal.returns
