@@ -268,7 +268,7 @@ const BROKEN: [(&[&str], &[&str], Family, u8, u32); 56] = [
 ];
 
 /// User files and library files that break no rule.
-const RIGHT: [(&[&str], &[&str]); 12] = [
+const RIGHT: [(&[&str], &[&str]); 21] = [
     (&[], &[]),
     (&["class A { static int a = -1; }"], &[]),
     (&["import l.*; class A { Box<A> a; Box b; }"], &[BOX]),
@@ -312,6 +312,18 @@ const RIGHT: [(&[&str], &[&str]); 12] = [
         &[""],
         &["package l; class G<T> { void f(T a) { } void f(String b) { } G<T> g; }"],
     ),
+    (&["package a; class b { }"], &[]),
+    (&["package m; class A { }"], &[BOX]),
+    (&["class A { protected A[] a; int[] b[]; }"], &[]),
+    (&["class A { void clone(int a) { } int wait; }"], &[]),
+    (&["class A { void f(int a, int b) { } }"], &[]),
+    (&["public abstract class A { abstract void f(); }"], &[]),
+    (&["interface I { int a = 1; }"], &[]),
+    (
+        &[""],
+        &["package l; class E<T> { } class F extends Exception { E<F> a; }"],
+    ),
+    (&["package u; class A { }"], &["package l; class B { }"]),
 ];
 
 /// The trees of texts, the nodes of each numbered from 100 more than those before. `None` also for a long text.
