@@ -1,5 +1,5 @@
 -- The first type below two parameterizations, by its node.
-use Rattle.std.proofs.Common.{◌≡◌, ℕ, zero, suc, ◌+◌, ◌<◌, List, [], ◌∷◌, ◌++◌, length, Option, Some, None, ◌⊎◌, inl, inr, refl, sym, ap, ◌∙◌, subst, arith}
+use Rattle.std.proofs.Common.{◌≡◌, ℕ, ◌+◌, ◌<◌, List, Option, Some, None, inl, inr, refl, sym, ap, ◌∙◌, subst, arith}
 use Rattle.std.specs.Prelude.{slice_get, option_and_then}
 use Rattle.std.proofs.lemmas.Option.{slice_get_within}
 use Rattle.rule_order.specs.declared.Breach.{Breach}
@@ -11,13 +11,13 @@ use Rattle.type_names.specs.declared.known.JavaNames.{JavaNames}
 use Rattle.type_names.specs.Known.{File}
 use Rattle.type_headers.specs.Declared.{Declaration, declarations}
 use Rattle.built_in_types.specs.declared.types.BuiltIns.{BuiltIns}
-use Rattle.program_world.specs.ProgramWorld.{place_among, world_of}
+use Rattle.program_world.specs.ProgramWorld.{world_of}
 use Rattle.decl_table.specs.Bases.{AreBases}
 use Rattle.decl_table.specs.Program.{ClashBreaches}
 use Rattle.decl_table.specs.Clashes.{node_at, IsFirstClash}
 use Rattle.decl_table.proofs.Listed.{get_front}
 use Rattle.decl_table.proofs.Lows.{not_below_two}
-use Rattle.decl_table.proofs.Supers.{IsInfoOf, type_at}
+use Rattle.decl_table.proofs.Supers.{type_at}
 
 one_there : {A : Type 0} (o : Option A) (x y : A) → o ≡ Some x → o ≡ Some y → x ≡ y
 one_there o x y e f = cc (e, f)

@@ -1,5 +1,5 @@
 -- The files of a program among lists of units.
-use Rattle.std.proofs.Common.{◌≡◌, ℕ, zero, suc, ◌+◌, ◌<◌, Bool, List, [], ◌∷◌, ◌++◌, map, length, Option, Some, None, refl, sym, ap, ◌∙◌, subst, arith, get_or}
+use Rattle.std.proofs.Common.{◌≡◌, ℕ, ◌+◌, ◌<◌, Bool, List, map, length, Option, Some, refl, ap, ◌∙◌, subst, arith, get_or}
 use mathlib.Core.Path.{fun_ext}
 use Rattle.std.specs.Prelude.{slice_get, true, false}
 use Rattle.std.specs.Option.{option_map}
@@ -11,7 +11,7 @@ use Rattle.java_tree.specs.Plain.{SourceUnit}
 use Rattle.java_tree.specs.View.{unit_plain}
 use Rattle.class_world.specs.declared.world.TypeInfo.{TypeInfo}
 use Rattle.rule_order.specs.declared.Breach.{Breach}
-use Rattle.rule_order.specs.First.{Breaches, IsFirst}
+use Rattle.rule_order.specs.First.{IsFirst}
 use Rattle.type_names.specs.declared.known.JavaNames.{JavaNames}
 use Rattle.type_names.specs.Known.{File, files_of}
 use Rattle.type_names.specs.Tables.{files_in}

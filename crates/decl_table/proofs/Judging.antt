@@ -1,6 +1,6 @@
 -- How the parts of the judging go together.
-use Rattle.std.proofs.Common.{◌≡◌, ℕ, zero, suc, ◌+◌, ◌<◌, ◌≤◌, Bool, true, false, List, [], ◌∷◌, ◌++◌, map, length, Option, Some, None, Result, Ok, Err, ◌⊎◌, inl, inr, refl, sym, ap, ◌∙◌, subst, arith, append_assoc}
-use Rattle.std.specs.Prelude.{slice_get, IfOk}
+use Rattle.std.proofs.Common.{◌≡◌, ℕ, suc, ◌+◌, ◌≤◌, Bool, true, false, List, [], ◌∷◌, ◌++◌, map, length, Option, Some, None, Result, Ok, Err, inl, inr, refl, sym, ap, ◌∙◌, subst, arith}
+use Rattle.std.specs.Prelude.{IfOk}
 use Rattle.std.proofs.lemmas.List.{length-map, length-append}
 use Rattle.java_tree.specs.declared.fault.Broken.{Broken}
 use Rattle.java_tree.specs.declared.fault.Family.{Family}
@@ -28,7 +28,7 @@ use Rattle.written_types.specs.Places.{Place}
 use Rattle.decl_table.specs.declared.program.Judged.{Judged}
 use Rattle.decl_table.specs.declared.program.Judged.TheVariants as judged
 use Rattle.decl_table.specs.Bases.{AreBases}
-use Rattle.decl_table.specs.Program.{Program, java, files, built, ScopeSet, ScopeBreaches, sum, total, type_count, method_count, DeclarationSet, IsNone, IsFirstOf, IsLimit, IsLimitOver, IsEarlyRefusal, IsRefusal, IsProgramWorld}
+use Rattle.decl_table.specs.Program.{Program, java, files, built, ScopeSet, ScopeBreaches, sum, total, type_count, method_count, DeclarationSet, IsNone, IsFirstOf, IsLimitOver, IsEarlyRefusal, IsRefusal}
 use Rattle.decl_table.specs.Judged.{IsJudged, IsDeclared, IsEarly, IsTabled, named}
 use Rattle.decl_table.proofs.Orders.{supers_in_order}
 use Rattle.decl_table.proofs.Rises.{none_rises}

@@ -1,18 +1,17 @@
 -- No built-in type is below a parameterized type.
-use Rattle.std.proofs.Common.{◌≡◌, ℕ, zero, suc, ◌+◌, ◌<◌, List, [], ◌∷◌, ◌++◌, length, Option, Some, None, ◌⊎◌, inl, inr, refl, sym, ap, ◌∙◌, subst, arith}
+use Rattle.std.proofs.Common.{◌≡◌, ℕ, ◌<◌, List, [], Option, Some, inl, inr, refl, sym, ap, ◌∙◌, subst, arith}
 use Rattle.std.specs.Prelude.{slice_get}
 use Rattle.class_world.specs.declared.world.World.{World}
 use Rattle.class_world.specs.declared.world.TypeInfo.{TypeInfo}
 use Rattle.class_world.specs.declared.world.JavaType.{JavaType}
 use Rattle.class_world.specs.declared.world.JavaType.TheVariants as ty
-use Rattle.class_world.specs.Types.{substitute, erased, with_own}
-use Rattle.class_world.specs.Subtypes.{Subtype, same, through, declared, object, raw, null, arrays, char_int, int_long, IsSeenAs, Parameterizes}
+use Rattle.class_world.specs.Types.{substitute, with_own}
+use Rattle.class_world.specs.Subtypes.{Subtype, same, through, declared, object, raw, null, arrays, char_int, int_long, IsSeenAs}
 use Rattle.class_world.specs.Ordered.{IsClassBelowTwo}
-use Rattle.class_world.proofs.Forms.{null_kind, class_kind, array_kind, primitive_kind, same_class}
+use Rattle.class_world.proofs.Forms.{class_kind, array_kind, same_class}
 use Rattle.class_world.proofs.Substs.{put_class}
-use Rattle.decl_table.specs.Bases.{AreBases, IsBase}
+use Rattle.decl_table.specs.Bases.{AreBases}
 use Rattle.decl_table.proofs.Fitting.{get_there}
-use Rattle.decl_table.proofs.Listed.{get_front}
 
 -- the built-in types come first in the world
 abbrev pub BeginsWith : List TypeInfo → World → Type 0

@@ -1,6 +1,6 @@
 -- Where no supertype is wrong, the supertypes that the world declares are in order.
-use Rattle.std.proofs.Common.{◌≡◌, ℕ, zero, suc, ◌+◌, ◌<◌, Bool, true, false, ◌&&◌, List, [], ◌∷◌, ◌++◌, map, length, Option, Some, None, ◌⊎◌, inl, inr, refl, sym, ap, ◌∙◌, subst, arith}
-use Rattle.std.specs.Prelude.{slice_get, if◌then◌else◌, Contains}
+use Rattle.std.proofs.Common.{◌≡◌, ℕ, zero, suc, ◌<◌, Bool, true, false, ◌&&◌, List, [], ◌∷◌, length, Option, Some, None, inl, inr, refl, sym, ap, ◌∙◌, subst, arith}
+use Rattle.std.specs.Prelude.{slice_get, if◌then◌else◌}
 use Rattle.std.specs.Option.{option_map}
 use Rattle.std.proofs.lemmas.Option.{slice_get_within}
 use Rattle.java_tree.specs.declared.tree.Name.{Name}
@@ -12,7 +12,7 @@ use Rattle.class_world.specs.declared.world.World.{World}
 use Rattle.class_world.specs.declared.world.TypeInfo.{TypeInfo}
 use Rattle.class_world.specs.declared.world.JavaType.{JavaType}
 use Rattle.class_world.specs.declared.world.JavaType.TheVariants as ty
-use Rattle.class_world.specs.Types.{IsTypeOver, a_class}
+use Rattle.class_world.specs.Types.{a_class}
 use Rattle.class_world.specs.Sound.{IsSuper, AreSupers, IsClassOver, HaveClassSupers}
 use Rattle.class_world.specs.Subclasses.{IsDirectSuper}
 use Rattle.class_world.proofs.Forms.{class_kind, array_kind, same_class}
@@ -21,15 +21,15 @@ use Rattle.rule_order.specs.declared.Breach.{Breach}
 use Rattle.type_names.specs.declared.known.JavaNames.{JavaNames}
 use Rattle.type_names.specs.Known.{File}
 use Rattle.written_types.specs.Places.{Place}
-use Rattle.written_types.specs.Types.{arrays, variable, named_type, head_type, joined, type_of, types_of, takes}
+use Rattle.written_types.specs.Types.{arrays, variable, named_type, head_type, type_of, types_of, takes}
 use Rattle.written_types.specs.Breaks.{node_of, head_of, args_of, NamesType}
 use Rattle.written_types.proofs.Places.{variable_not}
-use Rattle.type_headers.specs.Declared.{Declaration, declarations, headers, place_of, written_supers}
+use Rattle.type_headers.specs.Declared.{Declaration, declarations, headers}
 use Rattle.built_in_types.specs.declared.types.BuiltIns.{BuiltIns}
-use Rattle.declared_types.specs.Rules.{wants_class, DeclaredTypeBreaches}
-use Rattle.program_world.specs.ProgramWorld.{argument, is_class, is_super, supers_of, place_among, world_of}
+use Rattle.declared_types.specs.Rules.{DeclaredTypeBreaches}
+use Rattle.program_world.specs.ProgramWorld.{argument, is_class, place_among, world_of}
 use Rattle.decl_table.specs.Bases.{AreBases, IsBase}
-use Rattle.decl_table.proofs.Wholes.{Fits, said_parts, joined_parts, over_class, type_over}
+use Rattle.decl_table.proofs.Wholes.{said_parts, joined_parts, over_class, type_over}
 use Rattle.decl_table.proofs.Fitting.{place_fits, get_there}
 use Rattle.decl_table.proofs.Listed.{get_front, contains_at}
 use Rattle.decl_table.proofs.Supers.{IsInfoOf, type_at, same_params, IsWrittenSuper, super_at}

@@ -1,9 +1,8 @@
 -- A type that is above itself in the world is above itself by what is written.
-use Rattle.std.proofs.Common.{◌≡◌, ℕ, zero, suc, ◌+◌, ◌<◌, List, [], ◌∷◌, ◌++◌, map, length, Option, Some, None, ◌⊎◌, inl, inr, refl, sym, ap, ◌∙◌, subst, arith, get_or}
-use Rattle.std.specs.Prelude.{slice_get, Contains}
+use Rattle.std.proofs.Common.{◌≡◌, ℕ, ◌<◌, List, [], map, length, Option, Some, ◌⊎◌, inl, inr, refl, sym, ap, ◌∙◌, subst, arith, get_or}
+use Rattle.std.specs.Prelude.{slice_get}
 use Rattle.std.proofs.lemmas.Option.{slice_get_within, slice_get_read}
 use Rattle.rule_order.specs.declared.Breach.{Breach}
-use Rattle.class_world.specs.declared.world.World.{World}
 use Rattle.class_world.specs.declared.world.TypeInfo.{TypeInfo}
 use Rattle.class_world.specs.declared.world.JavaType.{JavaType}
 use Rattle.class_world.specs.declared.world.JavaType.TheVariants as ty
@@ -15,13 +14,13 @@ use Rattle.class_world.proofs.Forms.{class_kind, array_kind, same_class}
 use Rattle.class_world.proofs.Substs.{put_class, erased_class}
 use Rattle.type_names.specs.declared.known.JavaNames.{JavaNames}
 use Rattle.type_names.specs.Known.{File}
-use Rattle.type_headers.specs.Declared.{Declaration, declarations, headers}
-use Rattle.super_rules.specs.Rules.{Declares, IsBuiltInSuper, WritesSuper, IsSuperOf, IsAbove, step, further, IsAboveItself, SuperBreaches}
+use Rattle.type_headers.specs.Declared.{headers}
+use Rattle.super_rules.specs.Rules.{IsSuperOf, IsAbove, step, further, SuperBreaches}
 use Rattle.built_in_types.specs.declared.types.BuiltIns.{BuiltIns}
 use Rattle.program_world.specs.ProgramWorld.{place_among, world_of}
 use Rattle.decl_table.specs.Bases.{AreBases}
 use Rattle.decl_table.proofs.Listed.{get_front, get_either, contains_at}
-use Rattle.decl_table.proofs.Supers.{IsInfoOf, type_at, super_at}
+use Rattle.decl_table.proofs.Supers.{type_at, super_at}
 use Rattle.decl_table.proofs.Orders.{class_written, class_supers}
 
 one_there : {A : Type 0} (o : Option A) (x y : A) → o ≡ Some x → o ≡ Some y → x ≡ y

@@ -1,28 +1,18 @@
 -- What the types of the world declare as supertypes.
-use Rattle.std.proofs.Common.{◌≡◌, ℕ, zero, suc, ◌+◌, ◌<◌, Bool, true, false, ◌&&◌, List, [], ◌∷◌, ◌++◌, map, length, Option, Some, None, ◌⊎◌, inl, inr, refl, sym, ap, ◌∙◌, subst, arith}
-use Rattle.std.specs.Prelude.{slice_get, filter, unwrap_or, option_and_then, if◌then◌else◌}
-use Rattle.std.specs.Option.{option_map}
-use Rattle.java_tree.specs.declared.tree.Name.{Name}
-use Rattle.java_tree.specs.declared.tree.Head.{Head}
-use Rattle.java_tree.specs.declared.tree.Head.TheVariants as head
-use Rattle.java_tree.specs.Plain as t
-use Rattle.java_tree.specs.Plain.{TypeExpr, TypeExprs, TypeDecl}
-use Rattle.class_world.specs.declared.world.World.{World}
+use Rattle.std.proofs.Common.{◌≡◌, ℕ, zero, suc, ◌+◌, Bool, true, false, ◌&&◌, List, [], ◌∷◌, map, length, Option, Some, None, ◌⊎◌, inl, inr, refl, sym, ap, ◌∙◌, subst, arith}
+use Rattle.std.specs.Prelude.{slice_get, filter, unwrap_or}
+use Rattle.java_tree.specs.Plain.{TypeExpr, TypeDecl}
 use Rattle.class_world.specs.declared.world.TypeInfo.{TypeInfo}
-use Rattle.class_world.specs.declared.world.JavaType.{JavaType, out-JavaType}
+use Rattle.class_world.specs.declared.world.JavaType.{JavaType}
 use Rattle.class_world.specs.declared.world.JavaType.TheVariants as ty
 use Rattle.class_world.specs.Types.{object_type}
-use Rattle.class_world.proofs.Forms.{class_kind, array_kind, same_class}
 use Rattle.type_names.specs.declared.known.JavaNames.{JavaNames}
 use Rattle.type_names.specs.Known.{File}
 use Rattle.written_types.specs.Places.{Place}
-use Rattle.written_types.specs.Types.{arrays, variable, named_type, head_type, type_of, types_of, takes, joined}
-use Rattle.written_types.specs.Breaks.{head_of, args_of, NamesType}
-use Rattle.written_types.proofs.Places.{variable_not}
-use Rattle.type_headers.specs.Declared.{Declaration, declarations, header, headers, place_of, written_supers}
+use Rattle.written_types.specs.Types.{type_of}
+use Rattle.type_headers.specs.Declared.{Declaration, declarations, header, headers, written_supers}
 use Rattle.built_in_types.specs.declared.types.BuiltIns.{BuiltIns}
 use Rattle.program_world.specs.ProgramWorld.{read, class_form, argument, is_super, implied_super, supers_of, methods_of, fields_of, type_info, infos_from, place_among, world_of}
-use Rattle.decl_table.proofs.Wholes.{said_parts, joined_parts}
 use Rattle.decl_table.proofs.Fitting.{HaveParams}
 use Rattle.decl_table.proofs.Listed.{get_either, get_front, get_behind, get_mapped, get_filtered}
 

@@ -1,5 +1,5 @@
 -- A program's declarations: the sets of rules on them in their order, and its world.
-use Rattle.std.specs.Prelude.{◌≡◌, ℕ, ◌+◌, ◌<◌, ◌≤◌, ◌⊎◌, Bool, false, List, [], ◌∷◌, map, Option, Some, None, nat_lt, slice_get, option_and_then, unwrap_or}
+use Rattle.std.specs.Prelude.{◌≡◌, ℕ, ◌+◌, ◌<◌, ◌≤◌, ◌⊎◌, Bool, false, List, [], ◌∷◌, Option, Some, None, nat_lt, slice_get, unwrap_or}
 use Rattle.std.specs.Option.{option_map}
 use Rattle.java_tree.specs.declared.tree.Name.{Name}
 use Rattle.java_tree.specs.declared.fault.Broken.{Broken}

@@ -1,4 +1,4 @@
-use Rattle.std.proofs.Common.{map, None, Some, inl, sym, subst}
+use Rattle.std.proofs.Common.{map, inl, sym, subst}
 use Rattle.java_tree.specs.View.{unit_plain}
 use Rattle.java_tree.specs.declared.fault.Family.TheVariants as family
 use Rattle.rule_order.specs.First.{IsFirst}

@@ -1,12 +1,9 @@
-use Rattle.std.proofs.Common.{rules, ◌≡◌, ◌<◌, ◌≤◌, ◌^◌, List, map, length, None, Some, refl, sym, ap, ◌∙◌, subst, arith}
+use Rattle.std.proofs.Common.{rules, ◌≡◌, ◌≤◌, map, length, sym, ap, ◌∙◌, subst, arith}
 use Rattle.java_tree.specs.View.{unit_plain}
-use Rattle.class_world.specs.declared.world.TypeInfo.{TypeInfo}
-use Rattle.decl_rules.specs.DeclaredRules.{declared_types, declared_methods}
 use Rattle.type_names.specs.Known.{files_of}
-use Rattle.type_names.specs.Tables.{StandsFor}
 use Rattle.type_headers.specs.Declared.{headers}
 use Rattle.decl_table.specs.Bases.{AreBases}
-use Rattle.decl_table.specs.Program.{Program, ScopeSet, total, type_count, method_count}
+use Rattle.decl_table.specs.Program.{Program, ScopeSet, type_count, method_count}
 use Rattle.decl_table.specs.Judged.{IsEarly}
 use Rattle.decl_table.proofs.Bases.{built_in_bases}
 use Rattle.decl_table.proofs.Judging.{count_types, early_none, refused_early, declared_judged}

@@ -1,7 +1,6 @@
-use Rattle.std.proofs.Common.{rules, ◌≡◌, ℕ, ◌+◌, ◌<◌, List, map, take, length, refl, sym, ap, ◌∙◌, subst, arith}
+use Rattle.std.proofs.Common.{rules, ◌≡◌, ◌+◌, map, refl, sym, subst}
 use Rattle.std.specs.Prelude.{Some, slice_get}
 use Rattle.std.proofs.lemmas.List.{take_all}
-use Rattle.java_tree.specs.declared.tree.SourceUnit as declared
 use Rattle.java_tree.specs.View.{unit_plain}
 use Rattle.rule_order.specs.First.{IsFirst}
 use Rattle.type_names.specs.Known.{File}

@@ -1,8 +1,8 @@
-use Rattle.std.proofs.Common.{◌≡◌, List, map, length, sym, ap, ◌∙◌, subst}
+use Rattle.std.proofs.Common.{map, subst}
 use Rattle.std.proofs.lemmas.List.{length-map}
 use Rattle.std.specs.Prelude.{true, false}
 use Rattle.java_tree.specs.View.{unit_plain}
-use Rattle.rule_order.specs.First.{Either, IsFirst}
+use Rattle.rule_order.specs.First.{Either}
 use Rattle.rule_order.proofs.Firsts.{first_alike, first_of_both}
 use Rattle.type_names.specs.Known.{files_of}
 use Rattle.type_names.specs.Rules.{Among}

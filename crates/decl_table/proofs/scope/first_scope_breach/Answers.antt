@@ -1,4 +1,4 @@
-use Rattle.std.proofs.Common.{◌≡◌, map, subst, sym}
+use Rattle.std.proofs.Common.{map, subst, sym}
 use Rattle.java_tree.specs.View.{unit_plain}
 use Rattle.rule_order.specs.First.{Either}
 use Rattle.rule_order.proofs.Firsts.{first_of_both}
