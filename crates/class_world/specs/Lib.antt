@@ -11,3 +11,7 @@ pub mod Members
 pub mod Lookup
 pub mod Tables
 pub mod Names
+pub mod Access
+pub mod Signatures
+pub mod Inheritance
+pub mod Overriding

@@ -1,6 +1,7 @@
 //! The declared types, methods and fields of a program, by number, and the questions on them (JLS 3rd edition, 4.10 and 8.4.8).
 #![tactic(auto)]
 
+pub mod access;
 mod below_two;
 pub mod laws;
 mod members;
@@ -15,6 +16,7 @@ mod tests;
 mod types;
 pub mod world;
 
+pub use access::{Declared, sees};
 pub use below_two::first_below_two;
 pub use members::{MethodTable, find_method, member_names};
 pub use order::{is_below, is_sub_class, superclass};
