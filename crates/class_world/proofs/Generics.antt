@@ -20,7 +20,7 @@ use Rattle.class_world.proofs.Forms.{primitive_kind, null_kind, class_kind, arra
 use Rattle.class_world.proofs.Substs.{put_class, erased_class, there_is}
 use Rattle.class_world.proofs.Merges.{at_first, at_last}
 use Rattle.class_world.proofs.Searches.{length_snoc}
-use Rattle.class_world.proofs.Orders.{class_parts, declared_over, own_over, bare_over, object_over}
+use Rattle.class_world.proofs.Orders.{class_parts, declared_over, own_over, bare_over, object_over, seen_class}
 
 lower_or_last : (k i : ℕ) → k < i + 1 → (k < i) ⊎ (k ≡ i)
 lower_or_last k i h = grind (arith, h)
@@ -48,10 +48,6 @@ pairs_next R xs ys new i x y before at belongs made = (
 
 pub pairs_end : {A B : Type 0} (R : A → B → Type 0) (xs : List A) (ys : List B) (i : ℕ) → ArePairsTo R xs ys i → length xs ≡ i → ArePairs R xs ys
 pairs_end R xs ys i all e = (all.0 ∙ sym e, λ k x at. let lt = slice_get_within xs k x at in all.1 k x (omega (arith, lt, e)) at)
-
-seen_class : (n : ℕ) (zs : List JavaType) (d t : JavaType) (g : ℕ) (ys : List JavaType) → d ≡ ty.Class g ys → IsSeenAs n zs d t → (us : List JavaType) × (t ≡ ty.Class g us)
-seen_class n zs d t g ys shape (inl plain) = (map (substitute zs) ys, plain.1 ∙ ap (substitute zs) shape ∙ put_class zs g ys)
-seen_class n zs d t g ys shape (inr bare) = ([], bare.2 ∙ ap erased shape ∙ erased_class g ys)
 
 module _ (w : World) (sups : HaveClassSupers w) (graph : List (List ℕ)) (is_graph : IsSuperGraph w graph) (marks : List Bool) (marked : marks ≡ map (λ (i : TypeInfo). nat_lt 0 i.params) w.types) where
   generic : (c : ℕ) (info : TypeInfo) → slice_get w.types c ≡ Some info → (slice_get marks c ≡ Some true) ↔ (0 < info.params)

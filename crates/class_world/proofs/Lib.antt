@@ -18,3 +18,4 @@ pub mod Generics
 pub mod Collected
 pub mod Searches
 pub mod Transports
+pub mod Ranks

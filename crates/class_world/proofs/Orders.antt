@@ -8,7 +8,7 @@ use Rattle.class_world.specs.declared.world.TypeInfo.{TypeInfo}
 use Rattle.class_world.specs.declared.world.JavaType.{JavaType}
 use Rattle.class_world.specs.declared.world.JavaType.TheVariants as ty
 use Rattle.class_world.specs.Types.{object_type, substitute, erased, with_own, IsReference, of_class, of_variable, of_array, AreReferences, IsTypeOver, a_primitive, the_null, a_class, a_variable, an_array}
-use Rattle.class_world.specs.Subtypes.{Subtype, same, through, declared, object, raw, null, arrays, char_int, int_long, IsDeclaredSuper}
+use Rattle.class_world.specs.Subtypes.{Subtype, same, through, declared, object, raw, null, arrays, char_int, int_long, IsDeclaredSuper, IsSeenAs}
 use Rattle.class_world.specs.Sound.{AreSupers, HaveClassSupers, IsClassOver}
 use Rattle.class_world.proofs.Forms.{primitive_kind, null_kind, class_kind, variable_kind, array_kind, same_primitive, same_element, same_class, primitive_refers_not, null_refers_not}
 use Rattle.std.proofs.lemmas.Option.{slice_get_within}
@@ -79,6 +79,11 @@ object_over w n c info at =
     let lt : c < length w.types = slice_get_within w.types c info at in
     let top = sub.there_is w.types 0 (omega (arith, lt)) in
     bare_over w n 0 top.0 top.1
+
+-- what a declared supertype is for a type keeps its class
+pub seen_class : (n : ℕ) (zs : List JavaType) (d t : JavaType) (g : ℕ) (ys : List JavaType) → d ≡ ty.Class g ys → IsSeenAs n zs d t → (us : List JavaType) × (t ≡ ty.Class g us)
+seen_class n zs d t g ys shape (inl plain) = (map (substitute zs) ys, plain.1 ∙ ap (substitute zs) shape ∙ put_class zs g ys)
+seen_class n zs d t g ys shape (inr bare) = ([], bare.2 ∙ ap erased shape ∙ erased_class g ys)
 
 -- the primitive types above one
 abbrev pub widens : Primitive → Primitive → Bool

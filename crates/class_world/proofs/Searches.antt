@@ -11,7 +11,8 @@ use Rattle.class_world.specs.Subclasses.{IsDirectSuper}
 use Rattle.class_world.specs.Subtypes.{Subtype, same, through}
 use Rattle.class_world.specs.Sound.{AreSupers}
 use Rattle.class_world.specs.declared.sequence.Visit.{Visit}
-use Rattle.class_world.specs.Merged.{FinishedBefore, IsAboveItself, IsSearch, IsSequence, declared_supers, supers_in}
+use Rattle.class_world.specs.Merged.{FinishedBefore, IsAboveItself, IsSearch, declared_supers, supers_in}
+use Rattle.class_world.specs.Sequences.{IsSequence}
 use Rattle.class_world.proofs.Forms.{same_class}
 use Rattle.class_world.proofs.Substs.{there_is}
 use Rattle.class_world.proofs.Lifts.{bare_declared}

@@ -11,7 +11,8 @@ use Rattle.class_world.specs.Subclasses.{IsDirectSuper}
 use Rattle.class_world.specs.Types.{IsTypeOver, a_primitive, the_null, a_class, a_variable, an_array}
 use Rattle.class_world.specs.Subtypes.{Subtype, same, through, declared, object, raw, null, arrays, char_int, int_long}
 use Rattle.class_world.specs.Sound.{AreSupers, IsRow, IsSingle, IsSound}
-use Rattle.class_world.specs.Merged.{HasRow, IsSequence}
+use Rattle.class_world.specs.Merged.{HasRow}
+use Rattle.class_world.specs.Sequences.{IsSequence}
 use Rattle.class_world.specs.Ordered.{IsFilledAt}
 use Rattle.class_world.proofs.Words.{set_here, set_there, same_or_other}
 

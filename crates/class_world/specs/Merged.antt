@@ -103,12 +103,6 @@ FinishedBefore finished ds i = (k g : ℕ) (args : List JavaType) → k < i → 
 abbrev pub IsAboveItself : World → ℕ → Type 0
 IsAboveItself w c = (g : ℕ) × (args : List JavaType) × IsDirectSuper w c (ty.Class g args) × Subtype w (ty.Class g []) (ty.Class c [])
 
--- All classes in a sequence in which those of the declared supertypes come first.
-pub record IsSequence (w : World) (s : List ℕ) : Type 0 where
-  pub known : (i c : ℕ) → slice_get s i ≡ Some c → c < length w.types
-  pub all : (c : ℕ) → c < length w.types → (i : ℕ) × (slice_get s i ≡ Some c)
-  pub before : (i c g : ℕ) (args : List JavaType) → slice_get s i ≡ Some c → IsDirectSuper w c (ty.Class g args) → (j : ℕ) × (j < i) × (slice_get s j ≡ Some g)
-
 -- The search for a sequence: the classes seen that are not finished wait on the stack, each of which leads to those above it there; the finished ones are listed,
 -- those of their declared supertypes first.
 pub record IsSearch (w : World) (seen finished : List Bool) (stack listed : List ℕ) : Type 0 where

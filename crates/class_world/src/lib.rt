@@ -21,6 +21,7 @@ pub use below_two::first_below_two;
 pub use members::{MethodTable, find_method, member_names};
 pub use order::{is_below, is_sub_class, superclass};
 pub use order_table::{Ordered, with_order};
+pub use sequence::supers_first;
 pub use subtypes::{fits, is_sub, is_unchecked, super_as};
 pub use types::{erase, is_put, is_same};
 pub use world::{Above, FieldInfo, JavaType, MethodInfo, TypeInfo, Walk, World};

@@ -3,7 +3,8 @@
 ghost use Rattle.std.specs.Prelude.{◌≡◌, ℕ, ◌<◌, ◌^◌, length, slice_get, List, Some, IsTrue, IfOk};
 ghost use Rattle.class_world.specs.Sound.{AreSupers};
 ghost use Rattle.class_world.specs.Subclasses.{IsDirectSuper};
-ghost use Rattle.class_world.specs.Merged.{HasRow, IsSequence};
+ghost use Rattle.class_world.specs.Merged.{HasRow};
+ghost use Rattle.class_world.specs.Sequences.{IsSequence};
 ghost use Rattle.class_world.specs.Ordered.{IsClassBelowTwo, IsFilled, IsFilledAt, IsOrdered};
 ghost use Rattle.class_world.specs.declared.world.JavaType.{JavaType};
 ghost use Rattle.class_world.specs.declared.world.JavaType.TheVariants as ty;

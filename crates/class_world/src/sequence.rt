@@ -1,9 +1,10 @@
 //! A sequence of the classes in which those of the declared supertypes come first (JLS 3rd edition, 8.1.4).
 
 ghost use Rattle.std.specs.Prelude.{◌≡◌, ℕ, ◌<◌, ◌≤◌, ◌^◌, List, [], Some, true, false, length, slice_get, IsTrue, IfOk, IfSome, IfNone, ◌↔◌, ◌∷◌};
-ghost use Rattle.class_world.specs.Sound.{AreSupers};
+ghost use Rattle.class_world.specs.Sound.{AreSupers, IsSound};
 ghost use Rattle.class_world.specs.Subclasses.{IsDirectSuper};
-ghost use Rattle.class_world.specs.Merged.{FinishedBefore, IsAboveItself, IsSearch, IsSequence, declared_supers};
+ghost use Rattle.class_world.specs.Merged.{FinishedBefore, IsAboveItself, IsSearch, declared_supers};
+ghost use Rattle.class_world.specs.Sequences.{IsSequence};
 ghost use Rattle.class_world.specs.Sorts.{IsSorted};
 ghost use Rattle.class_world.specs.declared.world.JavaType.TheVariants as ty;
 
@@ -23,6 +24,21 @@ pub(crate) enum Sorted {
 pub(crate) struct Visit {
     class: u32,
     passed: usize,
+}
+
+/// All classes of a sound world, those of a class's declared supertypes before it. Takes time for the types and their declared supertypes.
+pub fn supers_first(alloc: Global, w: &World) -> Result<Vec<u32>, NoMemory>
+    requires { IsSound w.now }
+    ensures { IfOk result (λ v. IsSequence w.now v.items) }
+{
+    // More classes than numbers find no room in the memory of any machine.
+    if w.types.len() > u32::MAX as usize {
+        return Err(NoMemory);
+    }
+    match sort(alloc, w)? {
+        Sorted::Sequence(listed) => Ok(listed),
+        Sorted::AboveItself(_) => unreachable!(),
+    }
 }
 
 /// Sorts the classes. Takes time for the types and their declared supertypes.
