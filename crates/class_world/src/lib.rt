@@ -2,6 +2,8 @@
 #![tactic(auto)]
 
 pub mod access;
+#[cfg(test)]
+mod access_tests;
 mod below_two;
 pub mod laws;
 mod members;

@@ -1,9 +1,22 @@
-use Rattle.std.proofs.Common.{rules, ◌≡◌, ◌↔◌, IsTrue, Some, slice_get, true, List, ℕ, ◌+◌, ◌-◌, ◌*◌, ◌<◌, ◌≤◌, length, ◌/◌, ◌%◌, Bool, false, nat_eq, nat_lt, [], ◌∷◌, ◌++◌, slice_index_or, slice_set, bit_and, bit_or, Fits, w8, w32, w64, Bor, MutBor}
-use Rattle.std.specs.List.{Contains}
-use Rattle.java_tree.specs.declared.tree.Mod.TheVariants as mods
-use Rattle.class_world.specs.Access.{AreOfOnePackage, IsAccessibleFrom, IsInterface, Sees}
+use Rattle.std.proofs.Common.{rules, ◌≡◌, ◌↔◌, IsTrue, Some, slice_get, List, ℕ, Bool, sym, subst}
+use Rattle.java_tree.specs.declared.tree.Mod.{Mod}
+use Rattle.class_world.specs.declared.world.World.{World}
+use Rattle.class_world.specs.declared.world.FieldInfo.{FieldInfo}
+use Rattle.class_world.specs.declared.access.Declared.TheVariants as declared
+use Rattle.class_world.specs.Access.{IsAccessibleFrom, Sees}
 use Rattle.class_world.proofs.access.sees.Goals as goal
 
--- src/access.rt:19:1
+field_told : (w : World) (c f : ℕ) (info : FieldInfo) (ms : List Mod) (r : Bool) → slice_get w.fields f ≡ Some info → ms ≡ info.mods → IsTrue r ↔ IsAccessibleFrom w c info.owner ms
+    → IsTrue r ↔ Sees w c (declared.Field f)
+field_told w c f info ms r at e told = (
+  λ h. (info, at, subst (IsAccessibleFrom w c info.owner) e (told.0 h)),
+  λ h.
+      let i : h.0 ≡ info = cc (h.1, at) in
+      told.1 (subst (IsAccessibleFrom w c info.owner) (sym e) (subst (λ (x : FieldInfo). IsAccessibleFrom w c x.owner x.mods) i h.2)),
+)
+
 pub returns-in-Some-get : goal.returns-in-Some-get
-returns-in-Some-get c = ?
+returns-in-Some-get c =
+    subst (λ m. IsTrue c.is_accessible-in-Some-get.result ↔ Sees c.args.w.now c.args.class m) (sym c.in-Field.is)
+    (field_told c.args.w.now c.args.class c.in-Field.f c.in-Some-get.info.now c.as_slice-in-Some-get.result.now c.is_accessible-in-Some-get.result (search rules) c.as_slice-in-Some-get.ensures
+    c.is_accessible-in-Some-get.ensures)
