@@ -1,5 +1,5 @@
 -- Access to members (JLS 6.6), as long as user files are of one package.
-use Rattle.std.specs.Prelude.{◌≡◌, ℕ, ◌⊎◌, true, List, Some, slice_get}
+use Rattle.std.specs.Prelude.{◌≡◌, ℕ, ◌⊎◌, true, List, Option, Some, slice_get}
 use Rattle.std.specs.List.{Contains}
 use Rattle.java_tree.specs.declared.tree.Mod.{Mod}
 use Rattle.java_tree.specs.declared.tree.Mod.TheVariants as mods
@@ -7,6 +7,7 @@ use Rattle.class_world.specs.declared.world.World.{World}
 use Rattle.class_world.specs.declared.world.TypeInfo.{TypeInfo}
 use Rattle.class_world.specs.declared.world.MethodInfo.{MethodInfo}
 use Rattle.class_world.specs.declared.world.FieldInfo.{FieldInfo}
+use Rattle.class_world.specs.declared.world.JavaType.{JavaType}
 use Rattle.class_world.specs.declared.access.Declared.{Declared}
 use Rattle.class_world.specs.declared.access.Declared.TheVariants as declared
 
@@ -26,7 +27,8 @@ pub data IsAccessibleFrom (w : World) (c owner : ℕ) (ms : List Mod) : Type 0 w
   in_its_class : c ≡ owner → IsAccessibleFrom w c owner ms
   in_its_package : (Contains ms mods.Private → ⊥) → AreOfOnePackage w c owner → IsAccessibleFrom w c owner ms
 
--- a member, by its number, accessible in the class c
-abbrev pub Sees : World → ℕ → Declared → Type 0
-Sees w c (declared.Method m) = (info : MethodInfo) × (slice_get w.methods m ≡ Some info) × IsAccessibleFrom w c info.owner info.mods
-Sees w c (declared.Field f) = (info : FieldInfo) × (slice_get w.fields f ≡ Some info) × IsAccessibleFrom w c info.owner info.mods
+-- A member, by its number, is accessible in the class c. The type by which it is used (none for a static member and for a use by `super` or `this`) matters for protected
+-- members of other packages alone, and there are none yet.
+abbrev pub Sees : World → ℕ → Declared → (through : Option JavaType) → Type 0
+Sees w c (declared.Method m) through = (info : MethodInfo) × (slice_get w.methods m ≡ Some info) × IsAccessibleFrom w c info.owner info.mods
+Sees w c (declared.Field f) through = (info : FieldInfo) × (slice_get w.fields f ≡ Some info) × IsAccessibleFrom w c info.owner info.mods

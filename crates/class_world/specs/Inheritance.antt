@@ -1,5 +1,5 @@
 -- The members of a declared type (JLS 8.2, 8.3, 8.4.8, 9.2): what it declares, and of the members of the types directly above it those that are not private and that
--- no declaration of its own hides or overrides. Package access takes no member from a class below (its own package is the only one).
+-- no declaration of its own hides or overrides. As long as user files are of one package, package access takes no member from a class below.
 use Rattle.std.specs.Prelude.{◌≡◌, ℕ, ◌⊎◌, true, List, [], Option, Some, None, slice_get, length}
 use Rattle.std.specs.List.{Contains}
 use Rattle.java_tree.specs.declared.tree.Name.{Name}

@@ -16,3 +16,4 @@ pub mod Access
 pub mod Signatures
 pub mod Inheritance
 pub mod Overriding
+pub mod Counted

@@ -1,5 +1,5 @@
 -- Overriding (JLS 8.4.8.1, 8.4.8.4, 9.4.1), families, and the method that runs (15.12.4.4).
-use Rattle.std.specs.Prelude.{◌≡◌, ℕ, ◌<◌, ◌⊎◌, true, false, List, [], Option, Some, None, slice_get}
+use Rattle.std.specs.Prelude.{◌≡◌, ℕ, ◌<◌, ◌⊎◌, true, false, List, Option, Some, None, slice_get, map}
 use Rattle.std.specs.List.{Contains}
 use Rattle.java_tree.specs.declared.tree.Mod.TheVariants as mods
 use Rattle.class_world.specs.declared.world.World.{World}
@@ -8,9 +8,10 @@ use Rattle.class_world.specs.declared.world.MethodInfo.{MethodInfo}
 use Rattle.class_world.specs.declared.world.JavaType.{JavaType}
 use Rattle.class_world.specs.declared.world.JavaType.TheVariants as ty
 use Rattle.class_world.specs.Subclasses.{IsDirectSuper}
-use Rattle.class_world.specs.Signatures.{IsMethod, HaveOneSignatureIn, AgreeBelow}
+use Rattle.class_world.specs.Types.{substitute}
+use Rattle.class_world.specs.Signatures.{IsMethod, IsSeenWith, HaveOneSignatureIn, AgreeBelow}
 use Rattle.class_world.specs.Access.{IsInterface}
-use Rattle.class_world.specs.Inheritance.{DeclaresMethod, IsPrivateMethod, Inherits, IsMemberMethod}
+use Rattle.class_world.specs.Inheritance.{DeclaresMethod, IsDirectlyAbove, IsPrivateMethod, Inherits, IsMemberMethod}
 
 -- not static (and no constructor)
 abbrev pub IsInstanceMethod : World → ℕ → Type 0
@@ -33,14 +34,33 @@ InheritsBoth w c m k =
     ((s : ℕ) × IsSuperclass w c s × Inherits w (IsMemberMethod w) c s m) × ((i : ℕ) × IsSuperinterface w c i × Inherits w (IsMemberMethod w) c i k)
     × ((o : ℕ) × DeclaresMethod w o m × IsClass w o)
 
--- The method m overrides k: it is declared below the type that declares k, with its signature there (8.4.8.1); or some class has m from its superclass and k from an
--- interface, with one signature (8.4.8.4); or it overrides a third that overrides k. In the last two cases only where both have one signature in each type below
--- those that declare them (in the first they have). Private methods are not overridden.
+-- The method m, which the type c declares, takes the place of k: k is a member of the class of a type directly above c and not private, and m has its signature in c. (An
+-- instance method overrides an instance method, a static one hides a static one; of others DR17 is broken.)
+abbrev pub Replaces : World → ℕ → ℕ → ℕ → Type 0
+Replaces w c m k = DeclaresMethod w c m × ((s : ℕ) × IsDirectlyAbove w c s × IsMemberMethod w s k) × (IsPrivateMethod w k → ⊥) × HaveOneSignatureIn w c m k
+
+-- the type that declares m is the one that declares k, or below it
+abbrev pub IsDeclaredBelow : World → ℕ → ℕ → Type 0
+IsDeclaredBelow w m k = (i : MethodInfo) × (j : MethodInfo) × IsMethod w m i × IsMethod w k j × ((args : List JavaType) × IsSeenWith w i.owner j.owner args)
+
+-- the class c has the methods m and k from both sides, with one signature; m's own type is not below k's
+abbrev pub MeetIn : World → ℕ → ℕ → ℕ → Type 0
+MeetIn w c m k = InheritsBoth w c m k × (IsDeclaredBelow w m k → ⊥) × HaveOneSignatureIn w c m k
+
+abbrev pub AreInstanceMethods : World → ℕ → ℕ → Type 0
+AreInstanceMethods w m k = IsInstanceMethod w m × IsInstanceMethod w k
+
+-- The method m overrides k at once: where it is declared it takes its place (8.4.8.1); or some class has m from its superclass and k from an interface (8.4.8.4), if both
+-- have one signature in each type below those that declare them (in the first case they have).
+pub data OverridesAtOnce (w : World) (m k : ℕ) : Type 0 where
+  declared : {c : ℕ} → Replaces w c m k → AreInstanceMethods w m k → OverridesAtOnce w m k
+  inherited : {c : ℕ} → MeetIn w c m k → AreInstanceMethods w m k → AgreeBelow w m k → OverridesAtOnce w m k
+
+-- The method m overrides k: at once, or through a third, which it overrides at once and which overrides k; then too only where m and k have one signature in each type
+-- below those that declare them. Private methods are not overridden, and no method overrides itself.
 pub data Overriding (w : World) : ℕ → ℕ → Type 0 where
-  declared : {c m k : ℕ} → DeclaresMethod w c m → (DeclaresMethod w c k → ⊥) → IsInstanceMethod w m → IsInstanceMethod w k → (IsPrivateMethod w k → ⊥)
-      → HaveOneSignatureIn w c m k → Overriding w m k
-  inherited : {c m k : ℕ} → InheritsBoth w c m k → (m ≡ k → ⊥) → IsInstanceMethod w m → IsInstanceMethod w k → HaveOneSignatureIn w c m k → AgreeBelow w m k → Overriding w m k
-  through : {m t k : ℕ} → Overriding w m t → Overriding w t k → (m ≡ k → ⊥) → AgreeBelow w m k → Overriding w m k
+  at_once : {m k : ℕ} → OverridesAtOnce w m k → Overriding w m k
+  through : {m t k : ℕ} → OverridesAtOnce w m t → Overriding w t k → (m ≡ k → ⊥) → AgreeBelow w m k → Overriding w m k
 
 -- The family of a method: all that overriding ties to it, in either direction.
 pub data IsFamily (w : World) (m : ℕ) : ℕ → Type 0 where
@@ -48,12 +68,14 @@ pub data IsFamily (w : World) (m : ℕ) : ℕ → Type 0 where
   above : {t k : ℕ} → IsFamily w m t → Overriding w t k → IsFamily w m k
   below : {t k : ℕ} → IsFamily w m t → Overriding w k t → IsFamily w m k
 
+-- the parameter types hold no type variable, and are the same
 abbrev pub HaveOneParameterList : World → ℕ → ℕ → Type 0
-HaveOneParameterList w m k = (i : MethodInfo) × (j : MethodInfo) × IsMethod w m i × IsMethod w k j × (i.params ≡ j.params)
+HaveOneParameterList w m k =
+    (i : MethodInfo) × (j : MethodInfo) × IsMethod w m i × IsMethod w k j × (i.params ≡ j.params) × ((args : List JavaType) → map (substitute args) i.params ≡ i.params)
 
--- The class c declares k, of m's family, which overrides m or has m's parameter types.
+-- The class c declares k, of m's family, which is m, overrides m, or has m's parameter types.
 abbrev pub Answers : World → ℕ → ℕ → ℕ → Type 0
-Answers w m c k = DeclaresMethod w c k × IsFamily w m k × (Overriding w k m ⊎ HaveOneParameterList w k m)
+Answers w m c k = IsClass w c × DeclaresMethod w c k × IsFamily w m k × ((k ≡ m) ⊎ Overriding w k m ⊎ HaveOneParameterList w k m)
 
 -- The first class from c upwards, along superclasses, that declares an answer; where it declares more, the first of them.
 pub data IsAnswer (w : World) (m : ℕ) : ℕ → ℕ → Type 0 where

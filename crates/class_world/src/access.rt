@@ -1,6 +1,7 @@
 //! Access to members (JLS 3rd edition, 6.6).
 
 ghost use Rattle.std.specs.Prelude.{◌≡◌, ◌↔◌, IsTrue, Some, slice_get, true, List};
+ghost use Rattle.std.specs.Option.{option_map};
 ghost use Rattle.std.specs.List.{Contains};
 ghost use Rattle.java_tree.specs.declared.tree.Mod.TheVariants as mods;
 ghost use Rattle.class_world.specs.Access.{AreOfOnePackage, IsAccessibleFrom, IsInterface, Sees};
@@ -17,7 +18,7 @@ pub enum Declared {
 
 /// Whether a member is accessible in a class. `through` is the type by which it is used: `None` for a static member and for a use by `super` or `this`, written or not. It says nothing yet, since user files are of one package.
 pub fn sees(w: &World, class: u32, member: &Declared, through: Option<&JavaType>) -> bool
-    ensures { IsTrue result ↔ Sees w.now class member.now }
+    ensures { IsTrue result ↔ Sees w.now class member.now (option_map (λ t. t.now) through.entry) }
 {
     let _ = through;
     match member {
