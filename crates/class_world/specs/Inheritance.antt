@@ -59,16 +59,16 @@ DeclaresMethod w c m = (info : MethodInfo) × IsMethod w m info × (info.owner �
 abbrev pub IsPrivateMethod : World → ℕ → Type 0
 IsPrivateMethod w m = (info : MethodInfo) × (slice_get w.methods m ≡ Some info) × Contains info.mods mods.Private
 
--- The type c has the method m from s, the class of a type directly above it: m is a member there and is not private, and no declaration of c has its signature.
--- (Of an instance and a static method one neither hides nor overrides the other, but there DR17 is broken.)
-abbrev pub Inherits : (w : World) → (ℕ → ℕ → Type 0) → ℕ → ℕ → ℕ → Type 0
-Inherits w member c s m =
-    IsDirectlyAbove w c s × member s m × (IsPrivateMethod w m → ⊥) × ((k : ℕ) → DeclaresMethod w c k → HaveOneSignatureIn w c k m → ⊥)
-
--- the method m is a member of the type c
+-- The method m is a member of the type c: c declares it; or it is a member of the class of a type directly above c and not private, and no declaration of c has its
+-- signature. (Of an instance and a static method one neither hides nor overrides the other, but there DR17 is broken.)
 pub data IsMemberMethod (w : World) : ℕ → ℕ → Type 0 where
   declared : {c m : ℕ} → DeclaresMethod w c m → IsMemberMethod w c m
-  inherited : {c s m : ℕ} → Inherits w (IsMemberMethod w) c s m → IsMemberMethod w c m
+  inherited : {c s m : ℕ} → IsDirectlyAbove w c s → IsMemberMethod w s m → (IsPrivateMethod w m → ⊥) → ((k : ℕ) → DeclaresMethod w c k → HaveOneSignatureIn w c k m → ⊥)
+      → IsMemberMethod w c m
+
+-- the type c has the method m from s, the class of a type directly above it
+abbrev pub Inherits : World → ℕ → ℕ → ℕ → Type 0
+Inherits w c s m = IsDirectlyAbove w c s × IsMemberMethod w s m × (IsPrivateMethod w m → ⊥) × ((k : ℕ) → DeclaresMethod w c k → HaveOneSignatureIn w c k m → ⊥)
 
 -- member methods of c with this name and this number of parameters
 abbrev pub IsMethodNamed : World → ℕ → Name → ℕ → ℕ → Type 0

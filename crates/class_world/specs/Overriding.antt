@@ -31,7 +31,7 @@ IsSuperinterface w c i = ((args : List JavaType) × IsDirectSuper w c (ty.Class 
 -- the class c has m from its superclass and k from a superinterface, and m is one that a class declares
 abbrev pub InheritsBoth : World → ℕ → ℕ → ℕ → Type 0
 InheritsBoth w c m k =
-    ((s : ℕ) × IsSuperclass w c s × Inherits w (IsMemberMethod w) c s m) × ((i : ℕ) × IsSuperinterface w c i × Inherits w (IsMemberMethod w) c i k)
+    ((s : ℕ) × IsSuperclass w c s × Inherits w c s m) × ((i : ℕ) × IsSuperinterface w c i × Inherits w c i k)
     × ((o : ℕ) × DeclaresMethod w o m × IsClass w o)
 
 -- The method m, which the type c declares, takes the place of k: k is a member of the class of a type directly above c and not private, and m has its signature in c. (An
