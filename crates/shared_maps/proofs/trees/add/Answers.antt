@@ -1,0 +1,14 @@
+use Rattle.std.proofs.Common.{◌≡◌, ◌∙◌, ◌∷◌, ◌++◌, [], Some, length, sym, ap, subst}
+use Rattle.std.specs.Prelude.{slice_get}
+use Rattle.shared_maps.specs.Trees.{Grows, IsArena}
+use Rattle.shared_maps.proofs.Nodes.{arena_more, at_last, grows_one}
+use Rattle.shared_maps.proofs.trees.add.Goals as goal
+
+pub returns-clause-arena : goal.returns-clause-arena
+returns-clause-arena c = subst IsArena (sym c.in_ok-push.ensures.ok) (arena_more c.args.nodes.now c.args.node c.requires.arena c.requires.inside)
+
+pub returns-clause-grows : goal.returns-clause-grows
+returns-clause-grows c = subst (Grows c.args.nodes.now) (sym c.in_ok-push.ensures.ok) (grows_one c.args.nodes.now c.args.node)
+
+pub returns-clause-added : goal.returns-clause-added
+returns-clause-added c = let number = c.in-Ok.ensures in let h = c.len.ensures in ?
