@@ -21,7 +21,8 @@ returns-then-root-eq0 t c =
 pub returns-in_ok-push : goal.returns-in_ok-push
 returns-in_ok-push t c =
     let one = one_listed c.args.nodes.now c.args.keys c.args.levels c.args.root c.args.from c.if-levels-eq0.true c.if-from-keys.false in
-    c.in_ok-push.ensures.items ∙ ap (λ zs. c.args.entries.now.items ++ zs) (sym (one ∙ ap (entry_of c.args.from) (sym c.in-Some.ensures)))
+    let added = ap (λ zs. c.args.entries.now.items ++ zs) (sym (one ∙ ap (entry_of c.args.from) (sym c.in-Some.ensures))) in
+    cc (c.in_ok-push.ensures.items, added)
 
 pub returns-in_default : goal.returns-in_default
 returns-in_default t c =

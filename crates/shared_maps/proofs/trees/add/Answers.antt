@@ -11,4 +11,6 @@ pub returns-clause-grows : goal.returns-clause-grows
 returns-clause-grows c = subst (Grows c.args.nodes.now) (sym c.in_ok-push.ensures.ok) (grows_one c.args.nodes.now c.args.node)
 
 pub returns-clause-added : goal.returns-clause-added
-returns-clause-added c = let number = c.in-Ok.ensures in let h = c.len.ensures in ?
+returns-clause-added c =
+    let number : c.in-Ok.number ≡ length c.args.nodes.now = c.in-Ok.ensures.1 ∙ c.len.ensures in
+    ap (slice_get c.push.new.self) number ∙ ap (λ ns. slice_get ns (length c.args.nodes.now)) c.in_ok-push.ensures.ok ∙ at_last c.args.nodes.now c.args.node
