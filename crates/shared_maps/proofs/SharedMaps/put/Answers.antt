@@ -38,6 +38,6 @@ returns-after-map-len-clause-value c =
           rw w.result-is
           (put_outside m c.args.map none c.args.key c.args.value c.if-key-self.false
           (λ k.
-              none_in m none arena (bare_first m.nodes arena) k
-              ∙ sym (none_in m c.args.map arena (bare_past m.nodes c.args.map.number (omega (arith, w.if-map-len.false, c.len.ensures))) k)))
+          none_in m none arena (bare_first m.nodes arena) k
+          ∙ sym (none_in m c.args.map arena (bare_past m.nodes c.args.map.number (omega (arith, w.if-map-len.false, c.len.ensures))) k)))
     ])
