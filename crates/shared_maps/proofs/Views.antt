@@ -1,11 +1,10 @@
 -- The values that the maps of a memory have.
-use Rattle.std.proofs.Common.{◌≡◌, ℕ, ◌+◌, ◌-◌, ◌^◌, ◌<◌, ◌≤◌, Bool, true, false, cond, List, Option, Some, None, inl, inr, refl, sym, ap, ◌∙◌, subst, length, arith}
+use Rattle.std.proofs.Common.{◌≡◌, ℕ, ◌-◌, ◌^◌, ◌<◌, ◌≤◌, Bool, true, false, cond, Option, Some, None, inl, inr, refl, sym, ap, ◌∙◌, arith}
 use Rattle.std.specs.Prelude.{◌==◌, nat_lt, if◌then◌else◌}
 use Rattle.std.proofs.lemmas.Bool.{cases_lt, lt-ltb, le-ltb, ltb-true, ne_eqb, cond-true, cond-false}
-use Rattle.shared_maps.specs.declared.trees.Node.{Node}
 use Rattle.shared_maps.specs.declared.Map.{Map}
-use Rattle.shared_maps.specs.Trees.{Grows, IsArena, IsMemory, Memory, entries_at, value_at}
-use Rattle.shared_maps.specs.Maps.{AreEntries, IsMap, KeepsMaps, value_in}
+use Rattle.shared_maps.specs.Trees.{Grows, IsArena, Memory, entries_at, value_at}
+use Rattle.shared_maps.specs.Maps.{AreEntries, KeepsMaps, value_in}
 use Rattle.shared_maps.proofs.Nodes.{IsBare}
 use Rattle.shared_maps.proofs.Walks.{IsWith, value_bare, value_kept}
 use Rattle.shared_maps.proofs.Listed.{is_listed, listed_ascend, listed_is}

@@ -21,7 +21,7 @@ pub struct Map {
 
 /// A memory of maps from the keys below a limit to numbers. A map that was made stays as it is; one made from another shares with it what they have in common.
 ///
-/// A map is a binary tree, with a level for each bit of a key. A node takes 12 bytes. All times are in looks at nodes.
+/// A map is a binary tree, with a level for each bit of the largest key. A node takes 12 bytes.
 #[derive(Drop)]
 pub struct SharedMaps {
     keys: u32,
@@ -51,16 +51,17 @@ impl SharedMaps {
         })
     }
 
-    /// The map with no keys.
+    /// The map with no keys. Takes no memory.
     pub fn empty(&self) -> Map
         ensures map { IsMap self.now result }
         ensures none { (k : ℕ) → value_in self.now result k ≡ None }
     {
+        // What is true of every memory is known once a field is read.
         let _nodes = &self.nodes;
         Map { number: 0 }
     }
 
-    /// The value of a key. Looks at one node more than the largest key has bits, at most.
+    /// The value of a key. Takes no memory, and looks at one node more than the largest key has bits, at most. A key that is not below the limit has no value, and neither has any key of a number of no map of this memory.
     pub fn get(&self, map: Map, key: u32) -> Option<u32>
         ensures { result ≡ value_in self.now map key }
     {
@@ -89,7 +90,7 @@ impl SharedMaps {
         }
     }
 
-    /// The keys of a map with their values, by key. Takes time for the entries, each times the bits of the largest key.
+    /// The keys of a map with their values, by key. Looks at two nodes for each bit of the largest key and each entry, at most, and at one more.
     pub fn entries(&self, alloc: Global, map: Map) -> Result<Vec<(u32, u32)>, NoMemory>
         ensures { IfOk result (λ v. AreEntries (value_in self.now map) v.items) }
     {

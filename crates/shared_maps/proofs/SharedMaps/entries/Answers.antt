@@ -1,4 +1,4 @@
-use Rattle.std.proofs.Common.{ℕ, List, [], ◌++◌, sym, ap, ◌∙◌, subst}
+use Rattle.std.proofs.Common.{◌++◌, sym, ap, ◌∙◌, subst}
 use Rattle.shared_maps.specs.Trees.{Memory, entries_at}
 use Rattle.shared_maps.specs.Maps.{AreEntries, value_in}
 use Rattle.shared_maps.proofs.Views.{are_entries}

@@ -1,8 +1,6 @@
-use Rattle.std.proofs.Common.{◌≡◌, ℕ, ◌<◌, ◌≤◌, refl, sym, ap, ◌∙◌, subst, length, arith}
-use Rattle.std.specs.Prelude.{◌==◌, if◌then◌else◌, IfOk}
+use Rattle.std.proofs.Common.{refl, sym, ◌∙◌, arith}
 use Rattle.shared_maps.specs.declared.Map.{Map}
 use Rattle.shared_maps.specs.Trees.{Memory}
-use Rattle.shared_maps.specs.Maps.{value_in}
 use Rattle.shared_maps.proofs.Nodes.{bare_first, bare_past}
 use Rattle.shared_maps.proofs.Views.{keeps_grown, none_in, put_in, put_outside}
 use Rattle.shared_maps.proofs.SharedMaps.put.Goals as goal

@@ -1,4 +1,4 @@
-use Rattle.std.proofs.Common.{◌≡◌, ◌∙◌, ◌∷◌, ◌++◌, [], Some, length, sym, ap, subst}
+use Rattle.std.proofs.Common.{◌≡◌, ◌∙◌, length, sym, ap, subst}
 use Rattle.std.specs.Prelude.{slice_get}
 use Rattle.shared_maps.specs.Trees.{Grows, IsArena}
 use Rattle.shared_maps.proofs.Nodes.{arena_more, at_last, grows_one}
