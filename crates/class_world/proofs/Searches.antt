@@ -9,15 +9,16 @@ use Rattle.class_world.specs.declared.world.JavaType.{JavaType}
 use Rattle.class_world.specs.declared.world.JavaType.TheVariants as ty
 use Rattle.class_world.specs.Subclasses.{IsDirectSuper}
 use Rattle.class_world.specs.Subtypes.{Subtype, same, through}
-use Rattle.class_world.specs.Sound.{AreSupers}
+use Rattle.class_world.specs.Sound.{HaveClassSupers}
 use Rattle.class_world.specs.declared.sequence.Visit.{Visit}
 use Rattle.class_world.specs.Merged.{FinishedBefore, IsAboveItself, IsSearch, declared_supers, supers_in}
 use Rattle.class_world.specs.Sequences.{IsSequence}
 use Rattle.class_world.proofs.Forms.{same_class}
 use Rattle.class_world.proofs.Substs.{there_is}
+use Rattle.class_world.proofs.Orders.{class_parts}
 use Rattle.class_world.proofs.Lifts.{bare_declared}
 use Rattle.class_world.proofs.Words.{set_here, set_there, same_or_other, length_set}
-use Rattle.class_world.proofs.Merges.{at_last, at_first, first_or_end}
+use Rattle.class_world.proofs.Ends.{at_last, at_first, first_or_end}
 
 -- how many are not yet seen
 abbrev pub unseen : List Bool → ℕ
@@ -65,15 +66,15 @@ pub length_snoc : {A : Type 0} (xs : List A) (x : A) → length (xs ++ x ∷ [])
 length_snoc [] x = refl
 length_snoc (y ∷ ys) x = let rest = length_snoc ys x in omega (arith, rest)
 
-module _ (w : World) (sound : AreSupers w) where
+module _ (w : World) (sups : HaveClassSupers w) where
   -- the class of a declared supertype is one of the world
   pub super_within : (c g : ℕ) (args : List JavaType) → IsDirectSuper w c (ty.Class g args) → g < length w.types
   super_within c g args h =
-      let sup = (sound.supers c h.0 (ty.Class g args) h.1 h).1 in
-      slice_get_within w.types g sup.2 (subst (λ g. slice_get w.types g ≡ Some sup.2) (sym (same_class g sup.0 args sup.1 sup.3).0) sup.4)
+      let parts = class_parts w h.0.params (ty.Class g args) g args (sups.supers c h.0 (ty.Class g args) h.1 h).0 refl in
+      slice_get_within w.types g parts.0 parts.1
 
   pub super_is_class : (c : ℕ) (d : JavaType) → IsDirectSuper w c d → (g : ℕ) × (args : List JavaType) × (d ≡ ty.Class g args)
-  super_is_class c d h = let sup = (sound.supers c h.0 d h.1 h).1 in (sup.0, sup.1, sup.3)
+  super_is_class c d h = (sups.supers c h.0 d h.1 h).1
 
   pub search_begins : (seen finished : List Bool) (listed : List ℕ) → seen ≡ replicate (length w.types) false → finished ≡ replicate (length w.types) false → listed ≡ []
       → IsSearch w seen finished [] listed
@@ -160,7 +161,7 @@ module _ (w : World) (sound : AreSupers w) where
   search_goes_up seen new finished stack rest longer listed top g args h is_stack is_new is_longer super =
       let lt : g < length w.types = super_within top g args super in
       let top_at : slice_get stack (length rest) ≡ Some top = ap (λ xs. slice_get xs (length rest)) is_stack ∙ at_last rest top in
-      let up : Subtype w (ty.Class top []) (ty.Class g []) = bare_declared w sound top super.0 (ty.Class g args) super.2 super.1 super.3 g args refl in
+      let up : Subtype w (ty.Class top []) (ty.Class g []) = bare_declared w sups top super.0 (ty.Class g args) super.2 super.1 super.3 g args refl in
       let old_or_last : (i c : ℕ) → slice_get longer i ≡ Some c → (slice_get stack i ≡ Some c) ⊎ ((c ≡ g) × (i ≡ length stack)) =
       λ i c at. first_or_end stack g c i (ap (λ xs. slice_get xs i) (sym is_longer) ∙ at) in
       let size : length stack ≡ length rest + 1 = ap length is_stack ∙ longer_by_one rest top in

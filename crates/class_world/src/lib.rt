@@ -2,13 +2,16 @@
 #![tactic(auto)]
 
 mod below_two;
+mod climb;
 pub mod laws;
 mod members;
 mod order;
 mod order_table;
 mod rows;
+mod seen;
 mod sequence;
 mod subtypes;
+mod supers;
 mod table;
 #[cfg(test)]
 mod tests;
