@@ -1,5 +1,5 @@
 -- A class's row, from the rows of its declared supertypes.
-use Rattle.std.proofs.Common.{◌≡◌, ℕ, ◌+◌, ◌/◌, ◌<◌, ◌≤◌, zero, suc, List, [], ◌∷◌, ◌++◌, Some, ◌⊎◌, ◌↔◌, inl, inr, refl, sym, ap, ◌∙◌, subst, length, arith}
+use Rattle.std.proofs.Common.{◌≡◌, ℕ, ◌+◌, ◌/◌, ◌<◌, ◌≤◌, zero, suc, List, [], Some, ◌⊎◌, ◌↔◌, inl, inr, refl, sym, ap, ◌∙◌, subst, length, arith}
 use Rattle.std.specs.Prelude.{slice_get, slice_index_or as get_or}
 use Rattle.std.proofs.lemmas.Option.{slice_get_read, slice_get_within}
 use Rattle.class_world.specs.declared.world.World.{World}
@@ -11,7 +11,7 @@ use Rattle.class_world.specs.Types.{erased, variables, with_own, of_class}
 use Rattle.class_world.specs.Subtypes.{Subtype, through, declared, object, raw, IsDeclaredSuper, Parameterizes}
 use Rattle.class_world.specs.Sound.{AreSupers, HaveClassSupers, IsSuper, IsSet, IsRow}
 use Rattle.class_world.specs.Climbs.{HasBase, IsGeneric, MarkGeneric}
-use Rattle.class_world.specs.Merged.{Sets, AreWithin, HasRow, HaveRows, AmongFirst}
+use Rattle.class_world.specs.Merged.{Sets, AreWithin, HaveRows, AmongFirst}
 use Rattle.class_world.proofs.Forms.{same_class}
 use Rattle.class_world.proofs.Substs.{erased_class, variables_length}
 use Rattle.class_world.proofs.Orders.{class_parts, class_supers, own_over, bare_over, class_above}

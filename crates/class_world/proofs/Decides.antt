@@ -1,25 +1,20 @@
 -- What the order's questions come to, form by form.
-use Rattle.std.proofs.Common.{◌≡◌, ℕ, ◌/◌, ◌%◌, ◌<◌, ◌≤◌, zero, suc, List, [], ◌∷◌, Option, Some, None, ◌↔◌, inl, inr, Bool, true, false, refl, sym, ap, ◌∙◌, subst, length, nat_eq, bit_and, arith}
-use Rattle.std.specs.Prelude.{slice_get, slice_index_or as get_or, IsTrue, ◌^◌, not, IfSome, IfNone}
-use Rattle.std.specs.Int.{bit_at}
+use Rattle.std.proofs.Common.{◌≡◌, ℕ, List, [], ◌∷◌, Option, Some, None, ◌↔◌, inl, inr, Bool, true, false, refl, sym, ap, ◌∙◌, subst, nat_eq, arith}
+use Rattle.std.specs.Prelude.{slice_get, IsTrue, not, IfSome, IfNone}
 use Rattle.std.proofs.lemmas.Bool.{eq-eqb}
-use Rattle.std.proofs.lemmas.Nat.Bits.{shr_and_one}
-use Rattle.std.proofs.lemmas.Option.{slice_get_read, slice_get_within}
 use denote.Enum.Bare.{sameb}
 use Rattle.java_tree.specs.contracts.tree.Primitive as primitives
 use Rattle.java_tree.specs.declared.tree.Primitive.{Primitive}
 use Rattle.java_tree.specs.declared.tree.Primitive.TheVariants as prim
 use Rattle.class_world.specs.declared.world.World.{World}
-use Rattle.class_world.specs.declared.world.TypeInfo.{TypeInfo}
 use Rattle.class_world.specs.declared.world.Above.{Above}
 use Rattle.class_world.specs.declared.world.JavaType.{JavaType}
 use Rattle.class_world.specs.declared.world.JavaType.TheVariants as ty
-use Rattle.class_world.specs.Types.{object_type, substitute, with_own, variables, IsReference, of_class, of_variable, of_array, IsTypeOver, a_primitive, the_null, a_class, a_variable, an_array}
+use Rattle.class_world.specs.Types.{object_type, variables, IsReference, of_class, of_variable, of_array, IsTypeOver, a_primitive, the_null, a_class, a_variable, an_array}
 use Rattle.class_world.specs.Subtypes.{Subtype, same, through, object, raw, null, arrays, Parameterizes, IsSuperAs}
 use Rattle.class_world.specs.Sound.{HaveClassSupers, IsSound, IsSet, IsOfWorld, IsKnown}
 use Rattle.class_world.specs.Climbs.{HasBase, IsClassType, IsRaw, IsSaid}
 use Rattle.class_world.proofs.Forms.{primitive_kind, null_kind, class_kind, variable_kind, array_kind, same_primitive, same_element, same_class, primitive_refers_not}
-use Rattle.class_world.proofs.Substs.{put_class}
 use Rattle.class_world.proofs.Orders as orders
 use Rattle.class_world.proofs.Orders.{widens, class_supers}
 use Rattle.class_world.proofs.Lifts as lifts

@@ -1,5 +1,5 @@
 -- Types as they are seen through the arguments on the way up, form by form.
-use Rattle.std.proofs.Common.{◌≡◌, ℕ, ◌+◌, ◌<◌, ◌≤◌, Bool, ◌↔◌, List, Some, map, refl, sym, ap, ◌∙◌, length, arith}
+use Rattle.std.proofs.Common.{◌≡◌, ℕ, ◌+◌, Bool, ◌↔◌, List, map, refl, sym, ap, ◌∙◌, length}
 use Rattle.std.specs.Prelude.{IsTrue}
 use Rattle.java_tree.specs.declared.tree.Primitive.{Primitive}
 use Rattle.class_world.specs.declared.world.World.{World}

@@ -1,5 +1,5 @@
 -- Which classes may be below two parameterizations of one class: those from which the declared supertypes lead to a generic one.
-use Rattle.std.proofs.Common.{◌≡◌, ℕ, ◌+◌, ◌<◌, Bool, true, false, List, [], ◌∷◌, ◌++◌, Some, ◌⊎◌, ◌↔◌, inl, inr, map, refl, sym, ap, ◌∙◌, subst, length, arith}
+use Rattle.std.proofs.Common.{◌≡◌, ℕ, ◌+◌, ◌<◌, Bool, true, List, [], ◌∷◌, ◌++◌, Some, ◌⊎◌, ◌↔◌, inl, inr, map, refl, sym, ap, ◌∙◌, subst, length, arith}
 use Rattle.std.specs.Prelude.{slice_get, nat_lt}
 use Rattle.std.specs.Option.{option_map}
 use Rattle.std.proofs.lemmas.Bool.{ltb-true, lt-ltb}
@@ -10,14 +10,14 @@ use Rattle.class_world.specs.declared.world.World.{World}
 use Rattle.class_world.specs.declared.world.TypeInfo.{TypeInfo}
 use Rattle.class_world.specs.declared.world.JavaType.{JavaType}
 use Rattle.class_world.specs.declared.world.JavaType.TheVariants as ty
-use Rattle.class_world.specs.Types.{substitute, erased, variables, with_own, IsTypeOver}
+use Rattle.class_world.specs.Types.{variables, with_own, IsTypeOver}
 use Rattle.class_world.specs.Subclasses.{IsDirectSuper}
-use Rattle.class_world.specs.Subtypes.{Subtype, same, through, declared, object, raw, null, arrays, char_int, int_long, IsSeenAs}
+use Rattle.class_world.specs.Subtypes.{Subtype, same, through, declared, object, raw, null, arrays, char_int, int_long}
 use Rattle.class_world.specs.Sound.{HaveClassSupers}
 use Rattle.class_world.specs.Graphs.{ArePairs, IsSuperGraph}
 use Rattle.class_world.specs.Climbs.{FlagBases, HasBase}
 use Rattle.class_world.proofs.Forms.{primitive_kind, null_kind, class_kind, array_kind, same_class}
-use Rattle.class_world.proofs.Substs.{put_class, erased_class, there_is}
+use Rattle.class_world.proofs.Substs.{there_is}
 use Rattle.class_world.proofs.Ends.{at_first, at_last}
 use Rattle.class_world.proofs.Searches.{length_snoc}
 use Rattle.class_world.proofs.Orders.{class_parts, declared_over, own_over, bare_over, object_over, seen_class}

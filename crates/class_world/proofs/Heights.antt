@@ -10,9 +10,9 @@ use Rattle.class_world.specs.declared.world.Above.{Above}
 use Rattle.class_world.specs.declared.world.JavaType.{JavaType, out-JavaType}
 use Rattle.class_world.specs.declared.world.JavaType.TheVariants as ty
 use Rattle.class_world.specs.declared.world.JavaType.TheOpen as f
-use Rattle.class_world.specs.Types.{with_own, variables}
+use Rattle.class_world.specs.Types.{variables}
 use Rattle.class_world.specs.Subclasses.{IsDirectSuper}
-use Rattle.class_world.specs.Subtypes.{Subtype, same, through, raw}
+use Rattle.class_world.specs.Subtypes.{Subtype, same, through}
 use Rattle.class_world.specs.Sound.{HaveClassSupers, IsSet, IsSound}
 use Rattle.class_world.specs.Climbs.{IsSuperBy}
 use Rattle.class_world.proofs.Forms.{same_class}

@@ -5,7 +5,6 @@ use Rattle.std.proofs.Math.Dec.{eqb-suc-zero}
 use Rattle.std.proofs.lemmas.Option.{slice_get_within}
 use Rattle.class_world.specs.declared.world.JavaType.{JavaType}
 use Rattle.class_world.specs.declared.world.JavaType.TheVariants as ty
-use Rattle.class_world.specs.Subtypes.{Parameterizes}
 use Rattle.class_world.specs.Merged.{IsListed, AreSingle, ClashOne, IsCovered, IsPlaced, HasPlaces, Takes}
 use Rattle.class_world.proofs.Forms.{same_class}
 use Rattle.class_world.proofs.Words.{set_here, set_there, same_or_other}

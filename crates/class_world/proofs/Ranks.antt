@@ -28,11 +28,15 @@ module _ (w : World) (sups : HaveClassSupers w) (rank : ℕ → ℕ) (falls : (c
   risen s t same c xs e = (c, xs, e, elim (same_or_other c 0) [ inl top ↦ inl top | inr other ↦ inr (other, omega arith) ])
   risen s t (through {m = m} a b) c xs e =
       let low = risen s m a c xs e in
-      let high = risen m t b low.0 low.1 low.2 in
-      (high.0, high.1, high.2, elim high.3 [
-        | inl top ↦ inl top
-        | inr h ↦ elim low.3 [ inl top ↦ absurd (h.0 top) | inr l ↦ inr (l.0, omega (arith, h.1, l.1)) ]
-      ])
+      let high = risen m t b low.0 low.1 low.2 in (
+        high.0,
+        high.1,
+        high.2,
+        elim high.3 [
+          | inl top ↦ inl top
+          | inr h ↦ elim low.3 [ inl top ↦ absurd (h.0 top) | inr l ↦ inr (l.0, omega (arith, h.1, l.1)) ]
+        ],
+      )
   risen s t (declared {c = d} {args = zs} h) c xs e =
       let number = (same_class d c zs xs e).0 in
       let direct : IsDirectSuper w d h.2 = (h.0, h.1, h.3, h.4) in

@@ -13,7 +13,6 @@ use Rattle.class_world.specs.Sound.{HaveClassSupers}
 use Rattle.class_world.specs.declared.sequence.Visit.{Visit}
 use Rattle.class_world.specs.Merged.{FinishedBefore, IsAboveItself, IsSearch, declared_supers, supers_in}
 use Rattle.class_world.specs.Sequences.{IsSequence}
-use Rattle.class_world.proofs.Forms.{same_class}
 use Rattle.class_world.proofs.Substs.{there_is}
 use Rattle.class_world.proofs.Orders.{class_parts}
 use Rattle.class_world.proofs.Lifts.{bare_declared}

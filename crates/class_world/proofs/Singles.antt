@@ -1,12 +1,12 @@
 -- Where no class is above itself, one with one way up to parameterized types is below two of one class only where the class on that way is.
-use Rattle.std.proofs.Common.{◌≡◌, ℕ, ◌+◌, ◌<◌, ◌≤◌, zero, suc, Bool, true, false, List, [], Some, ◌⊎◌, inl, inr, refl, sym, ap, ◌∙◌, subst, length, arith}
+use Rattle.std.proofs.Common.{◌≡◌, ℕ, ◌+◌, ◌<◌, ◌≤◌, zero, suc, Bool, true, List, [], Some, ◌⊎◌, inl, inr, refl, sym, ap, ◌∙◌, subst, length, arith}
 use Rattle.std.specs.Prelude.{slice_get}
 use Rattle.std.proofs.lemmas.Option.{slice_get_within}
 use Rattle.class_world.specs.declared.world.World.{World}
 use Rattle.class_world.specs.declared.world.TypeInfo.{TypeInfo}
 use Rattle.class_world.specs.declared.world.JavaType.{JavaType}
 use Rattle.class_world.specs.declared.world.JavaType.TheVariants as ty
-use Rattle.class_world.specs.Types.{substitute, variables, with_own, IsTypeOver}
+use Rattle.class_world.specs.Types.{variables, with_own, IsTypeOver}
 use Rattle.class_world.specs.Subclasses.{IsDirectSuper}
 use Rattle.class_world.specs.Subtypes.{Subtype, IsDeclaredSuper, Parameterizes}
 use Rattle.class_world.specs.Sound.{HaveClassSupers, IsClassOver}

@@ -1,15 +1,14 @@
 -- The way up from a class type of a sound world to the parameterization of a class.
-use Rattle.std.proofs.Common.{◌≡◌, ℕ, ◌+◌, ◌<◌, ◌≤◌, zero, suc, Bool, true, List, [], ◌∷◌, Some, None, ◌⊎◌, ◌↔◌, inl, inr, map, refl, sym, ap, ◌∙◌, subst, length, arith}
+use Rattle.std.proofs.Common.{◌≡◌, ℕ, ◌+◌, ◌<◌, zero, suc, Bool, true, List, [], Some, None, ◌⊎◌, ◌↔◌, inl, inr, map, refl, sym, ap, ◌∙◌, subst, length, arith}
 use Rattle.std.specs.Prelude.{slice_get, IsTrue}
-use Rattle.std.proofs.lemmas.Option.{slice_get_within}
 use Rattle.class_world.specs.declared.world.World.{World}
 use Rattle.class_world.specs.declared.world.TypeInfo.{TypeInfo}
 use Rattle.class_world.specs.declared.world.Above.{Above}
 use Rattle.class_world.specs.declared.world.JavaType.{JavaType}
 use Rattle.class_world.specs.declared.world.JavaType.TheVariants as ty
-use Rattle.class_world.specs.declared.seen.Seen.{Seen, Through'}
+use Rattle.class_world.specs.declared.seen.Seen.{Seen}
 use Rattle.class_world.specs.Seen.{seen_as}
-use Rattle.class_world.specs.Types.{substitute, erased, variables, with_own, IsTypeOver}
+use Rattle.class_world.specs.Types.{substitute, erased, variables, IsTypeOver}
 use Rattle.class_world.specs.Subclasses.{IsDirectSuper}
 use Rattle.class_world.specs.Subtypes.{Subtype, same, through, declared, raw, IsDeclaredSuper, IsSeenAs, Parameterizes}
 use Rattle.class_world.specs.Sound.{HaveClassSupers, IsOfWorld, IsRow, IsSet, IsSound}

@@ -6,7 +6,6 @@ use Rattle.class_world.specs.declared.world.Above.{Above}
 use Rattle.class_world.specs.declared.world.JavaType.{JavaType}
 use Rattle.class_world.specs.declared.world.JavaType.TheVariants as ty
 use Rattle.class_world.specs.Subclasses.{IsDirectSuper}
-use Rattle.class_world.specs.Types.{substitute}
 use Rattle.class_world.specs.Subtypes.{Subtype, Parameterizes}
 use Rattle.class_world.specs.Sound.{IsSet, IsRow}
 

@@ -120,14 +120,7 @@ fn raw_row(
 }
 
 /// Sets the bits of the classes of which a parameterization is above the raw type, in words without a bit.
-fn fill_raw(
-    w: &World,
-    generic: &[u64],
-    rows: &[Above],
-    c: u32,
-    info: &TypeInfo,
-    words: &mut [u64],
-)
+fn fill_raw(w: &World, generic: &[u64], rows: &[Above], c: u32, info: &TypeInfo, words: &mut [u64])
     requires supers { AreSupers w.now }
     requires generic { MarkGeneric w.now generic.now }
     requires known { slice_get w.now.types c ≡ Some info.now }

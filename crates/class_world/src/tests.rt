@@ -942,10 +942,7 @@ const MADE_ONE: &[(u32, &[Step])] = &[
     (0, &[]),
     (1, &[]),
     (0, &[Step::Bare(1), Step::Bare(1), Step::Two(4)]),
-    (
-        2,
-        &[Step::Var(0), Step::One(2), Step::Var(1), Step::One(2)],
-    ),
+    (2, &[Step::Var(0), Step::One(2), Step::Var(1), Step::One(2)]),
 ];
 
 fn first_of(alloc: Global, classes: &[(u32, &[Step])]) -> Result<Option<u32>, Fail> {

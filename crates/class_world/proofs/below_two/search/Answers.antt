@@ -1,4 +1,4 @@
-use Rattle.std.proofs.Common.{◌<◌, Some, refl, arith}
+use Rattle.std.proofs.Common.{arith}
 use Rattle.std.proofs.lemmas.Option.{slice_get_within}
 use Rattle.class_world.specs.Ordered.{IsSingleClass}
 use Rattle.class_world.proofs.Climbs.{next_too}

@@ -1,4 +1,4 @@
-use Rattle.std.proofs.Common.{◌≡◌, ◌+◌, ◌∙◌, ◌↔◌, ◌⊎◌, inr, refl, sym, subst, ap, length, arith}
+use Rattle.std.proofs.Common.{◌≡◌, ◌+◌, ◌∙◌, ◌↔◌, ◌⊎◌, refl, sym, subst, ap, length, arith}
 use Rattle.std.specs.Prelude.{slice_get}
 use Rattle.class_world.specs.Types.{erased}
 use Rattle.class_world.specs.Sound.{IsSet}

@@ -1,4 +1,4 @@
-use Rattle.std.proofs.Common.{◌≡◌, ◌↔◌, IsTrue, refl, sym, subst}
+use Rattle.std.proofs.Common.{◌↔◌, IsTrue, refl, sym, subst}
 use Rattle.class_world.specs.declared.world.JavaType.TheVariants as ty
 use Rattle.class_world.specs.Subtypes.{Subtype}
 use Rattle.class_world.specs.Climbs.{HasBase}
