@@ -83,13 +83,19 @@ abbrev pub IsAboveItself : World → ℕ → Type 0
 IsAboveItself w c = (g : ℕ) × (args : List JavaType) × IsDirectSuper w c (ty.Class g args) × Subtype w (ty.Class g []) (ty.Class c [])
 
 -- The search for a sequence: the classes seen that are not finished wait on the stack, each of which leads to those above it there; the finished ones are listed,
--- those of their declared supertypes first.
+-- each once, those of their declared supertypes first.
 pub record IsSearch (w : World) (seen finished : List Bool) (stack listed : List ℕ) : Type 0 where
   pub seen_size : length seen ≡ length w.types
   pub finished_size : length finished ≡ length w.types
   pub stacked : (i c : ℕ) → slice_get stack i ≡ Some c → c < length w.types
   pub waiting : (c : ℕ) → slice_get seen c ≡ Some true → slice_get finished c ≡ Some false → (i : ℕ) × (slice_get stack i ≡ Some c)
   pub chain : (i j a b : ℕ) → i ≤ j → slice_get stack i ≡ Some a → slice_get stack j ≡ Some b → Subtype w (ty.Class a []) (ty.Class b [])
+  pub begun : (c : ℕ) → slice_get finished c ≡ Some true → slice_get seen c ≡ Some true
+  pub noticed : (i c : ℕ) → slice_get stack i ≡ Some c → slice_get seen c ≡ Some true
+  pub pending : (i c : ℕ) → slice_get stack i ≡ Some c → slice_get finished c ≡ Some false
+  pub apart : (i j c : ℕ) → slice_get stack i ≡ Some c → slice_get stack j ≡ Some c → i ≡ j
   pub known : (i c : ℕ) → slice_get listed i ≡ Some c → c < length w.types
+  pub over : (i c : ℕ) → slice_get listed i ≡ Some c → slice_get finished c ≡ Some true
+  pub once : (i j c : ℕ) → slice_get listed i ≡ Some c → slice_get listed j ≡ Some c → i ≡ j
   pub done : (c : ℕ) → slice_get finished c ≡ Some true → (i : ℕ) × (slice_get listed i ≡ Some c)
   pub before : (i c g : ℕ) (args : List JavaType) → slice_get listed i ≡ Some c → IsDirectSuper w c (ty.Class g args) → (j : ℕ) × (j < i) × (slice_get listed j ≡ Some g)
