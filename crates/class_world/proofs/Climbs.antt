@@ -19,10 +19,9 @@ use Rattle.class_world.specs.declared.world.JavaType.TheOpen as f
 use Rattle.class_world.specs.Types.{object_type, substitute, erased, variables, with_own, IsTypeOver}
 use Rattle.class_world.specs.Subclasses.{IsDirectSuper}
 use Rattle.class_world.specs.Subtypes.{Subtype, same, through, declared, object, raw, null, arrays, char_int, int_long, IsDeclaredSuper, IsBelowTwo, Parameterizes}
-use Rattle.class_world.specs.Sound.{HaveClassSupers, IsClassOver}
+use Rattle.class_world.specs.Sound.{HaveClassSupers, IsClassOver, IsSingle}
 use Rattle.class_world.specs.Merged.{ClashOne, HasPlaces, IsCovered, IsListed, Takes}
-use Rattle.class_world.specs.Ordered.{IsClassBelowTwo}
-use Rattle.class_world.specs.Climbs.{Climbs, Collide, IsClassType, IsClimb, IsClimbing, IsDeclaredAbove, IsSuperBy}
+use Rattle.class_world.specs.Climbs.{Climbs, Collide, IsClassType, IsClimb, IsClimbing, IsDeclaredAbove, IsRaw, IsSuperBy}
 use Rattle.class_world.proofs.Forms.{primitive_kind, null_kind, class_kind, array_kind, same_class}
 use Rattle.class_world.proofs.Substs.{put_class, erased_class, length_map, mapped_at, there_is}
 use Rattle.class_world.proofs.Orders.{class_parts, declared_over, own_over}
@@ -135,14 +134,14 @@ above_by w c xs t d u e h k =
 -- a class type that is not raw sees its declared supertypes with the arguments put
 pub plain_super : (w : World) (t d : JavaType) (c : ℕ) (args args' : List JavaType) (r : Result JavaType NoMemory) → IsClassType w t → ((g : ℕ) (xs : List JavaType) → t ≡ ty.Class g xs → c ≡ g)
     → ((g : ℕ) (xs : List JavaType) → t ≡ ty.Class g xs → args ≡ xs) → ((g : ℕ) (xs : List JavaType) → t ≡ ty.Class g xs → args' ≡ xs)
-    → ((info : TypeInfo) → slice_get w.types c ≡ Some info → (args ≡ []) × (0 < info.params) → ⊥) → IfOk r (λ u. u ≡ substitute args' d) → IfOk r (λ u. IsSuperBy w t d u)
+    → (IsRaw w c args → ⊥) → IfOk r (λ u. u ≡ substitute args' d) → IfOk r (λ u. IsSuperBy w t d u)
 plain_super w t d c args args' r is number first second full made =
     let g = is.1.0 in
     let xs = is.1.1 in
     let parts = class_parts w is.0.0 t g xs is.0.1 is.1.2 in
     let count : length xs ≡ parts.0.params = elim parts.2 [
       | inr len ↦ len
-      | inl none ↦ no_params parts.0.params xs none (λ some. full parts.0 (ap (slice_get w.types) (number g xs is.1.2) ∙ parts.1) (first g xs is.1.2 ∙ none, some))
+      | inl none ↦ no_params parts.0.params xs none (λ some. full (first g xs is.1.2 ∙ none, (parts.0, ap (slice_get w.types) (number g xs is.1.2) ∙ parts.1, some)))
     ] in
     then_ok r (λ u e. (g, xs, is.1.2, parts.0, parts.1, inl (count, e ∙ ap (λ ys. substitute ys d) (second g xs is.1.2)))) made
   where
@@ -335,15 +334,15 @@ module _ (w : World) (sups : HaveClassSupers w) (n : ℕ) (ts : List JavaType) (
     | inr e ↦ absurd (is.2 (same_class g 0 is.0 [] (sym is.1 ∙ e)).1)
   ]
 
-pub climb_ends : (w : World) → HaveClassSupers w → (n : ℕ) (s : JavaType) (found : List JavaType) (places : List ℕ) (i : ℕ) → IsClimb w n s found places i → length found ≤ i
-    → (g : ℕ) → IsBelowTwo w s g → ⊥
-climb_ends w sups n s found places i climb le g h =
+pub climb_ends : (w : World) → HaveClassSupers w → (n c : ℕ) (found : List JavaType) (places : List ℕ) (i : ℕ) → IsClimb w n (with_own c n) found places i → length found ≤ i → IsSingle w c n
+climb_ends w sups n c found places i climb le g t u is_t is_u up_t up_u =
+    let s = with_own c n in
     let over : (t : JavaType) → IsListed found t → IsTypeOver w n t = λ t k. (climb.above t k).1.0 in
     let closed : (t u : JavaType) → IsListed found t → IsDeclaredAbove w t u → IsCovered found u =
     λ t u k above. let lt = slice_get_within found k.0 t k.1 in climb.covered k.0 t u (omega (arith, lt, le)) k.1 above in
     let own = (climb.above s climb.begun).1.1 in
     let covered : IsCovered found s = (own.0, own.1, own.1, own.2, (climb.begun.0, climb.begun.1 ∙ ap (λ t. Some t) own.2), inr refl) in
-    h.6 (placed_single found places climb.placed g h.0 h.1 h.2 h.3 (bases_listed w sups n found over closed s h.0 g covered h.4 h.2) (bases_listed w sups n found over closed s h.1 g covered h.5 h.3))
+    placed_single found places climb.placed g t u is_t is_u (bases_listed w sups n found over closed s t g covered up_t is_t) (bases_listed w sups n found over closed s u g covered up_u is_u)
 
-pub none_yet : (w : World) (c : ℕ) → ((d : ℕ) → d < c → IsClassBelowTwo w d → ⊥) → (IsClassBelowTwo w c → ⊥) → (d : ℕ) → d < c + 1 → IsClassBelowTwo w d → ⊥
-none_yet w c before here d lt h = elim (lower_or_last d c lt) [ inl low ↦ before d low h | inr last ↦ here (subst (IsClassBelowTwo w) last h) ]
+pub next_too : (P : ℕ → Type 0) (c : ℕ) → ((d : ℕ) → d < c → P d) → P c → (d : ℕ) → d < c + 1 → P d
+next_too P c before here d lt = elim (lower_or_last d c lt) [ inl low ↦ before d low | inr last ↦ subst P (sym last) here ]

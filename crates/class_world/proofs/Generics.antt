@@ -1,5 +1,5 @@
 -- Which classes may be below two parameterizations of one class: those from which the declared supertypes lead to a generic one.
-use Rattle.std.proofs.Common.{◌≡◌, ℕ, ◌+◌, ◌<◌, Bool, true, false, List, [], ◌∷◌, ◌++◌, Some, ◌⊎◌, ◌↔◌, inl, inr, map, refl, sym, ap, ◌∙◌, subst, length, arith}
+use Rattle.std.proofs.Common.{◌≡◌, ℕ, ◌+◌, ◌<◌, Bool, true, List, [], ◌∷◌, ◌++◌, Some, ◌⊎◌, ◌↔◌, inl, inr, map, refl, sym, ap, ◌∙◌, subst, length, arith}
 use Rattle.std.specs.Prelude.{slice_get, nat_lt}
 use Rattle.std.specs.Option.{option_map}
 use Rattle.std.proofs.lemmas.Bool.{ltb-true, lt-ltb}
@@ -10,17 +10,18 @@ use Rattle.class_world.specs.declared.world.World.{World}
 use Rattle.class_world.specs.declared.world.TypeInfo.{TypeInfo}
 use Rattle.class_world.specs.declared.world.JavaType.{JavaType}
 use Rattle.class_world.specs.declared.world.JavaType.TheVariants as ty
-use Rattle.class_world.specs.Types.{substitute, erased, variables, with_own, IsTypeOver}
+use Rattle.class_world.specs.Types.{variables, with_own, IsTypeOver}
 use Rattle.class_world.specs.Subclasses.{IsDirectSuper}
-use Rattle.class_world.specs.Subtypes.{Subtype, same, through, declared, object, raw, null, arrays, char_int, int_long, IsSeenAs}
+use Rattle.class_world.specs.Subtypes.{Subtype, same, through, declared, object, raw, null, arrays, char_int, int_long}
 use Rattle.class_world.specs.Sound.{HaveClassSupers}
 use Rattle.class_world.specs.Graphs.{ArePairs, IsSuperGraph}
-use Rattle.class_world.specs.Ordered.{IsClassBelowTwo}
+use Rattle.class_world.specs.Climbs.{FlagBases, HasBase}
 use Rattle.class_world.proofs.Forms.{primitive_kind, null_kind, class_kind, array_kind, same_class}
-use Rattle.class_world.proofs.Substs.{put_class, erased_class, there_is}
-use Rattle.class_world.proofs.Merges.{at_first, at_last}
+use Rattle.class_world.proofs.Substs.{there_is}
+use Rattle.class_world.proofs.Ends.{at_first, at_last}
 use Rattle.class_world.proofs.Searches.{length_snoc}
 use Rattle.class_world.proofs.Orders.{class_parts, declared_over, own_over, bare_over, object_over, seen_class}
+use Rattle.class_world.proofs.Lifts.{base_generic}
 
 lower_or_last : (k i : ℕ) → k < i + 1 → (k < i) ⊎ (k ≡ i)
 lower_or_last k i h = grind (arith, h)
@@ -116,23 +117,19 @@ module _ (w : World) (sups : HaveClassSupers w) (graph : List (List ℕ)) (is_gr
   reach_back n s t char_int c xs e over = absurd (cc (primitive_kind prim.Char, class_kind c xs, e))
   reach_back n s t int_long c xs e over = absurd (cc (primitive_kind prim.Int, class_kind c xs, e))
 
-  pub reaches_generic : (c : ℕ) → IsClassBelowTwo w c → Reaches graph marks c
-  reaches_generic c h =
-      let n = h.0.params in
-      let two = h.3 in
-      let back = reach_back n (with_own c n) two.0 two.4 c (variables 0 n) refl (own_over w c h.0 h.1) in
-      let parts = class_parts w n two.0 h.2 two.2.0 back.3 two.2.1 in
-      let some : 0 < parts.0.params = elim parts.2 [ inl none ↦ absurd (two.2.2 none) | inr len ↦ let items = some_items two.2.0 two.2.2 in omega (arith, items, len) ] in
-      let number : h.2 ≡ back.0 = (same_class h.2 back.0 two.2.0 back.1 (sym two.2.1 ∙ back.2)).0 in
-      back.4 (subst (Reaches graph marks) number (inl ((generic h.2 parts.0 parts.1).1 some)))
-    where
-      some_items : (xs : List JavaType) → (xs ≡ [] → ⊥) → 0 < length xs
-      some_items [] some = absurd (some refl)
-      some_items (x ∷ xs) some = omega arith
+  reaches_generic : (c : ℕ) (info : TypeInfo) (g : ℕ) → slice_get w.types c ≡ Some info → HasBase w (with_own c info.params) g → Reaches graph marks c
+  reaches_generic c info g at h =
+      let back = reach_back info.params (with_own c info.params) h.0 h.2 c (variables 0 info.params) refl (own_over w c info at) in
+      let is = base_generic w sups info.params c g (variables 0 info.params) (own_over w c info at) h in
+      let number : g ≡ back.0 = (same_class g back.0 h.1.0 back.1 (sym h.1.1 ∙ back.2)).0 in
+      back.4 (subst (Reaches graph marks) number (inl ((generic g is.0 is.1).1 is.2)))
 
-  -- a class from which none is reached is not below two
-  pub not_below_two : (answers : List Bool) → ((a : ℕ) → a < length graph → (slice_get answers a ≡ Some true) ↔ Reaches graph marks a) → (c : ℕ) → slice_get answers c ≡ Some false → IsClassBelowTwo w c → ⊥
-  not_below_two answers told c never h =
-      let lt = slice_get_within w.types c h.0 h.1 in
-      let yes = (told c (omega (arith, lt, is_graph.0))).1 (reaches_generic c h) in
-      absurd (cc (yes, never))
+  -- no parameterized type is above a class from which none is reached
+  pub flags_told : (answers : List Bool) → length answers ≡ length graph → ((a : ℕ) → a < length graph → (slice_get answers a ≡ Some true) ↔ Reaches graph marks a) → FlagBases w answers
+  flags_told answers len told = (
+    len ∙ is_graph.0,
+    λ c info g never at h.
+        let lt = slice_get_within w.types c info at in
+        let yes = (told c (omega (arith, lt, is_graph.0))).1 (reaches_generic c info g at h) in
+        absurd (cc (yes, never)),
+  )

@@ -11,7 +11,7 @@ pub mod Weights
 pub mod Decides
 pub mod Steps
 pub mod Words
-pub mod Merges
+pub mod Ends
 pub mod Places
 pub mod Climbs
 pub mod Generics
@@ -19,3 +19,8 @@ pub mod Collected
 pub mod Searches
 pub mod Transports
 pub mod Ranks
+pub mod Bases
+pub mod Ways
+pub mod Frames
+pub mod Heights
+pub mod Singles

@@ -1,5 +1,5 @@
 -- How the order goes with arguments put for variables, and with the arguments left away.
-use Rattle.std.proofs.Common.{◌≡◌, ℕ, zero, suc, List, [], Some, inl, inr, map, refl, sym, ap, ◌∙◌, subst, length, arith}
+use Rattle.std.proofs.Common.{◌≡◌, ℕ, ◌<◌, zero, suc, List, [], ◌∷◌, Some, inl, inr, map, refl, sym, ap, ◌∙◌, subst, length, arith}
 use Rattle.std.specs.Prelude.{slice_get}
 use Rattle.java_tree.specs.declared.tree.Primitive.TheVariants as prim
 use Rattle.class_world.specs.declared.world.World.{World}
@@ -8,12 +8,13 @@ use Rattle.class_world.specs.declared.world.JavaType.{JavaType}
 use Rattle.class_world.specs.declared.world.JavaType.TheVariants as ty
 use Rattle.class_world.specs.Types.{substitute, erased, variables, with_own, of_class, AreReferences, IsTypeOver}
 use Rattle.class_world.specs.Subtypes.{Subtype, same, through, declared, object, raw, null, arrays, char_int, int_long, IsDeclaredSuper, IsSeenAs, Parameterizes}
-use Rattle.class_world.specs.Sound.{AreSupers, IsSingle, AreBases, ArePutBases}
+use Rattle.class_world.specs.Sound.{HaveClassSupers, IsSingle}
+use Rattle.class_world.specs.Climbs.{HasBase, IsGeneric}
 use Rattle.class_world.proofs.Forms.{primitive_kind, null_kind, class_kind, array_kind, same_class}
 use Rattle.class_world.proofs.Substs.{put_primitive, put_null, put_class, put_array, put_twice, put_own, put_refers, erased_class, length_map, none_left}
-use Rattle.class_world.proofs.Orders.{class_parts, bare_over, object_over, own_over, declared_above}
+use Rattle.class_world.proofs.Orders.{class_parts, bare_over, object_over, own_over, declared_above, class_above}
 
-module _ (w : World) (sound : AreSupers w) where
+module _ (w : World) (sups : HaveClassSupers w) where
   both : {s s' t t' : JavaType} → s' ≡ s → t' ≡ t → Subtype w s t → Subtype w s' t'
   both {s = s} {s' = s'} {t = t} {t' = t'} e f h = subst (λ s. Subtype w s t') (sym e) (subst (Subtype w s) (sym f) h)
 
@@ -22,8 +23,8 @@ module _ (w : World) (sound : AreSupers w) where
   put_below args refs s t same = same
   put_below args refs s t (through {m = m} a b) = through (put_below args refs s m a) (put_below args refs m t b)
   put_below args refs s t (declared {c = c} {args = xs} h) =
-      let sup = sound.supers c h.0 h.2 h.1 (h.0, h.1, h.3, h.4) in
-      let shape : erased h.2 ≡ ty.Class sup.1.0 [] = ap erased sup.1.3 ∙ erased_class sup.1.0 sup.1.1 in
+      let sup = sups.supers c h.0 h.2 h.1 (h.0, h.1, h.3, h.4) in
+      let shape : erased h.2 ≡ ty.Class sup.1.0 [] = ap erased sup.1.2 ∙ erased_class sup.1.0 sup.1.1 in
       let seen : IsSeenAs h.0.params (map (substitute args) xs) h.2 (substitute args t) = elim h.5 [
         | inl plain ↦ inl (length_map (substitute args) xs ∙ plain.0, ap (substitute args) plain.1 ∙ put_twice w h.0.params args xs h.2 plain.0 sup.0)
         | inr bare ↦ inr (ap (map (substitute args)) bare.0, bare.1, ap (substitute args) (bare.2 ∙ shape) ∙ put_class args sup.1.0 [] ∙ sym shape)
@@ -43,7 +44,7 @@ module _ (w : World) (sound : AreSupers w) where
   lift_declared : (n : ℕ) (args : List JavaType) (c : ℕ) (xs : List JavaType) (t0 t : JavaType) → IsTypeOver w n (ty.Class c xs) → IsDeclaredSuper w c xs t0
       → substitute args t0 ≡ t → Lifted n args c xs t
   lift_declared n args c xs t0 t over h image =
-      let up = declared_above w sound n c xs t0 over h in
+      let up = declared_above w sups n c xs t0 over h in
       (up.0.0, up.0.1, ap (substitute args) (sym up.0.2) ∙ image, subst (Subtype w (ty.Class c xs)) up.0.2 (declared h), subst (IsTypeOver w n) up.0.2 up.1)
 
   -- what is above a class type with arguments put for variables comes from a type above the class type itself
@@ -56,9 +57,9 @@ module _ (w : World) (sound : AreSupers w) where
       (high.0, high.1, high.2, through low.3 high.3, high.4)
   lifted n args s t (declared {c = d} {args = zs} h) c xs e over =
       let is = same_class c d (map (substitute args) xs) zs (sym (put_class args c xs) ∙ e) in
-      let sup = sound.supers d h.0 h.2 h.1 (h.0, h.1, h.3, h.4) in
+      let sup = sups.supers d h.0 h.2 h.1 (h.0, h.1, h.3, h.4) in
       let at : slice_get w.types c ≡ Some h.0 = subst (λ c. slice_get w.types c ≡ Some h.0) (sym is.0) h.1 in
-      let shape : erased h.2 ≡ ty.Class sup.1.0 [] = ap erased sup.1.3 ∙ erased_class sup.1.0 sup.1.1 in
+      let shape : erased h.2 ≡ ty.Class sup.1.0 [] = ap erased sup.1.2 ∙ erased_class sup.1.0 sup.1.1 in
       elim h.5 [
         | inl plain ↦
             let len : length xs ≡ h.0.params = sym (length_map (substitute args) xs) ∙ ap length is.1 ∙ plain.0 in
@@ -99,12 +100,12 @@ module _ (w : World) (sound : AreSupers w) where
       (high.0, high.1, high.2, through low.3 high.3)
   bare_above s t (declared {c = d} {args = zs} h) c xs e =
       let is = same_class d c zs xs e in
-      let sup = sound.supers d h.0 h.2 h.1 (h.0, h.1, h.3, h.4) in
+      let sup = sups.supers d h.0 h.2 h.1 (h.0, h.1, h.3, h.4) in
       let low : Subtype w (ty.Class c []) (ty.Class sup.1.0 []) =
-      subst (λ c. Subtype w (ty.Class c []) (ty.Class sup.1.0 [])) is.0 (bare_declared d h.0 h.2 h.3 h.1 h.4 sup.1.0 sup.1.1 sup.1.3) in
+      subst (λ c. Subtype w (ty.Class c []) (ty.Class sup.1.0 [])) is.0 (bare_declared d h.0 h.2 h.3 h.1 h.4 sup.1.0 sup.1.1 sup.1.2) in
       elim h.5 [
-        | inl plain ↦ (sup.1.0, _, plain.1 ∙ ap (substitute zs) sup.1.3 ∙ put_class zs sup.1.0 sup.1.1, low)
-        | inr bare ↦ (sup.1.0, [], bare.2 ∙ ap erased sup.1.3 ∙ erased_class sup.1.0 sup.1.1, low)
+        | inl plain ↦ (sup.1.0, _, plain.1 ∙ ap (substitute zs) sup.1.2 ∙ put_class zs sup.1.0 sup.1.1, low)
+        | inr bare ↦ (sup.1.0, [], bare.2 ∙ ap erased sup.1.2 ∙ erased_class sup.1.0 sup.1.1, low)
       ]
   bare_above s t (object r) c xs e = (0, [], refl, object (of_class _ _))
   bare_above s t (raw d zs) c xs e = (c, [], ap (λ c. ty.Class c []) (same_class d c zs xs e).0, same)
@@ -123,57 +124,49 @@ module _ (w : World) (sound : AreSupers w) where
   pub bare_alike : (c g : ℕ) (xs ys : List JavaType) → Subtype w (ty.Class c xs) (ty.Class g []) → Subtype w (ty.Class c ys) (ty.Class g [])
   bare_alike c g xs ys h = through (raw _ _) (bare c g xs [] h)
 
-  -- the listed types with the arguments put are the parameterized types above the class type
-  put_bases : (n c : ℕ) (xs args bases : List JavaType) (s : JavaType) → AreReferences args → IsTypeOver w n (ty.Class c xs)
-      → substitute args (ty.Class c xs) ≡ s → AreBases w (ty.Class c xs) bases → ArePutBases w args s bases
-  put_bases n c xs args bases s refs over image list u = (
-    λ h.
-        let below = (list h.1).0 (h.0, h.2) in
-        let g = below.0.0 in
-        let ys = below.0.1.0 in
-        let shape : u ≡ ty.Class g (map (substitute args) ys) = sym h.3 ∙ ap (substitute args) below.0.1.1 ∙ put_class args g ys in
-        ((g, (map (substitute args) ys, shape, λ none. below.0.1.2 (none_left (substitute args) ys none))), both (sym image) (sym h.3) (put_below args refs (ty.Class c xs) h.1 below.1)),
-    λ h.
-        let is = h.0 in
-        let low = lifted n args s u h.1 c xs image over in
-        let some : low.1 ≡ [] → ⊥ = λ none.
-        let flat : ty.Class is.0 is.1.0 ≡ ty.Class low.0 [] = sym is.1.1 ∙ sym low.2 ∙ ap (λ ys. substitute args (ty.Class low.0 ys)) none ∙ put_class args low.0 [] in
-        is.1.2 (same_class is.0 low.0 is.1.0 [] flat).1 in
-        let at = (list (ty.Class low.0 low.1)).1 ((low.0, (low.1, refl, some)), low.3) in
-        (at.0, ty.Class low.0 low.1, at.1, low.2),
-  )
+  -- what a type is a parameterization of, it is before arguments are put for its variables
+  put_back : (args : List JavaType) (g h : ℕ) (ys : List JavaType) (t : JavaType) → Parameterizes g t → substitute args (ty.Class h ys) ≡ t → Parameterizes g (ty.Class h ys)
+  put_back args g h ys t is e =
+      let class = same_class h g _ is.0 (sym (put_class args h ys) ∙ e ∙ is.1) in
+      (ys, ap (λ g. ty.Class g ys) class.0, λ none. is.2 (sym class.1 ∙ ap (map (substitute args)) none))
 
-  -- of a class with its arguments
-  pub own_bases : (k c : ℕ) (info : TypeInfo) (args bases : List JavaType) → slice_get w.types c ≡ Some info → length args ≡ info.params → IsTypeOver w k (ty.Class c args)
-      → AreBases w (with_own c info.params) bases → ArePutBases w args (ty.Class c args) bases
-  own_bases k c info args bases at len over list =
-      let parts = class_parts w k (ty.Class c args) c args over refl in
-      put_bases info.params c (variables 0 info.params) args bases (ty.Class c args) parts.3 (own_over w c info at) (put_own args c info.params len) list
-
-  -- of a raw type
-  pub raw_bases : (c : ℕ) (info : TypeInfo) (bases : List JavaType) → slice_get w.types c ≡ Some info
-      → AreBases w (ty.Class c []) bases → ArePutBases w [] (ty.Class c []) bases
-  raw_bases c info bases at list = put_bases 0 c [] [] bases (ty.Class c []) (λ k a e. absurd (cc e)) (bare_over w 0 c info at) (put_class [] c []) list
-
-  -- no class type is below two parameterizations of one class
-  pub one_base : ((c : ℕ) (info : TypeInfo) → slice_get w.types c ≡ Some info → IsSingle w c info.params) → (k c g : ℕ) (args : List JavaType) (t u : JavaType) → IsTypeOver w k (ty.Class c args) → Parameterizes g t → Parameterizes g u
-      → Subtype w (ty.Class c args) t → Subtype w (ty.Class c args) u → t ≡ u
-  one_base single k c g args t u over is_t is_u up_t up_u =
+  -- no type of a class is below two parameterizations of one class, where the class with its own variables is not
+  pub one_base : (k c g : ℕ) (args : List JavaType) (t u : JavaType) → ((info : TypeInfo) → slice_get w.types c ≡ Some info → IsSingle w c info.params) → IsTypeOver w k (ty.Class c args)
+      → Parameterizes g t → Parameterizes g u → Subtype w (ty.Class c args) t → Subtype w (ty.Class c args) u → t ≡ u
+  one_base k c g args t u single over is_t is_u up_t up_u =
       let parts = class_parts w k (ty.Class c args) c args over refl in
       elim parts.2 [
         | inl none ↦
             let low : (v : JavaType) → Subtype w (ty.Class c args) v → Subtype w (with_own c parts.0.params) v = λ v h. through (raw _ _) (subst (λ xs. Subtype w (ty.Class c xs) v) none h) in
-            single c parts.0 parts.1 g t u is_t is_u (low t up_t) (low u up_u)
+            single parts.0 parts.1 g t u is_t is_u (low t up_t) (low u up_u)
         | inr len ↦
             let image = put_own args c parts.0.params len in
             let own = own_over w c parts.0 parts.1 in
             let a = lifted parts.0.params args _ t up_t c (variables 0 parts.0.params) image own in
             let b = lifted parts.0.params args _ u up_u c (variables 0 parts.0.params) image own in
-            let class_a = same_class a.0 g _ is_t.0 (sym (put_class args a.0 a.1) ∙ a.2 ∙ is_t.1) in
-            let class_b = same_class b.0 g _ is_u.0 (sym (put_class args b.0 b.1) ∙ b.2 ∙ is_u.1) in
-            let some_a : a.1 ≡ [] → ⊥ = λ none. is_t.2 (sym class_a.1 ∙ ap (map (substitute args)) none) in
-            let some_b : b.1 ≡ [] → ⊥ = λ none. is_u.2 (sym class_b.1 ∙ ap (map (substitute args)) none) in
-            let alike = single c parts.0 parts.1 g (ty.Class a.0 a.1) (ty.Class b.0 b.1)
-            (a.1, ap (λ g. ty.Class g a.1) class_a.0, some_a) (b.1, ap (λ g. ty.Class g b.1) class_b.0, some_b) a.3 b.3 in
+            let alike = single parts.0 parts.1 g (ty.Class a.0 a.1) (ty.Class b.0 b.1) (put_back args g a.0 a.1 t is_t a.2) (put_back args g b.0 b.1 u is_u b.2) a.3 b.3 in
             sym a.2 ∙ ap (substitute args) alike ∙ b.2
       ]
+
+  -- where a parameterization of g is above a type of a class, one is above the class with its own variables
+  pub base_of_own : (k c g : ℕ) (xs : List JavaType) (info : TypeInfo) → IsTypeOver w k (ty.Class c xs) → slice_get w.types c ≡ Some info → HasBase w (ty.Class c xs) g → HasBase w (with_own c info.params) g
+  base_of_own k c g xs info over at h =
+      let parts = class_parts w k (ty.Class c xs) c xs over refl in
+      let alike : parts.0 ≡ info = cc (parts.1, at) in
+      elim parts.2 [
+        | inl none ↦ (h.0, h.1, through (raw _ _) (subst (λ xs. Subtype w (ty.Class c xs) h.0) none h.2))
+        | inr len ↦
+            let up = lifted info.params xs _ h.0 h.2 c (variables 0 info.params) (put_own xs c info.params (len ∙ ap (λ (i : TypeInfo). i.params) alike)) (own_over w c info at) in
+            (ty.Class up.0 up.1, put_back xs g up.0 up.1 h.0 h.1 up.2, up.3)
+      ]
+
+  -- a class of which a parameterization is above a class type is generic
+  pub base_generic : (k c g : ℕ) (xs : List JavaType) → IsTypeOver w k (ty.Class c xs) → HasBase w (ty.Class c xs) g → IsGeneric w g
+  base_generic k c g xs over h =
+      let up = class_above w sups k (ty.Class c xs) h.0 h.2 c xs refl over in
+      let parts = class_parts w k h.0 g h.1.0 up.1 h.1.1 in
+      (parts.0, parts.1, elim parts.2 [ inl none ↦ absurd (h.1.2 none) | inr len ↦ some_items h.1.0 parts.0.params h.1.2 len ])
+    where
+      some_items : (xs : List JavaType) (n : ℕ) → (xs ≡ [] → ⊥) → length xs ≡ n → 0 < n
+      some_items [] n some e = absurd (some refl)
+      some_items (x ∷ xs) n some e = omega (arith, e)

@@ -148,11 +148,11 @@ declared_over w sups n c xs t over h =
           (subst (IsTypeOver w n) (sym shape) (bare_over w n sup.1.0 class.0 class.1), (sup.1.0, [], shape))
     ]
 
-module _ (w : World) (sound : AreSupers w) where
+module _ (w : World) (sups : HaveClassSupers w) where
   -- a declared supertype is a class type over the same variables
   pub declared_above : (n c : ℕ) (xs : List JavaType) (t : JavaType) → IsTypeOver w n (ty.Class c xs) → IsDeclaredSuper w c xs t
       → ((g : ℕ) × (ys : List JavaType) × (t ≡ ty.Class g ys)) × IsTypeOver w n t
-  declared_above n c xs t over h = let up = declared_over w (class_supers w sound) n c xs t over h in (up.1, up.0)
+  declared_above n c xs t over h = let up = declared_over w sups n c xs t over h in (up.1, up.0)
 
   -- what is above a class type over some variables is a class type over them
   pub class_above : (n : ℕ) (s t : JavaType) → Subtype w s t → (c : ℕ) (xs : List JavaType) → s ≡ ty.Class c xs → IsTypeOver w n s
@@ -175,7 +175,7 @@ module _ (w : World) (sound : AreSupers w) where
   object_above s t (through {m = m} a b) e = object_above m t b (object_above s m a e)
   object_above s t (declared {c = d} {args = zs} h) e =
       let zero_is : d ≡ 0 = (same_class d 0 zs [] e).0 in
-      let none = (sound.top h.0 (subst (λ c. slice_get w.types c ≡ Some h.0) zero_is h.1)).1 in
+      let none = (sups.top h.0 (subst (λ c. slice_get w.types c ≡ Some h.0) zero_is h.1)).1 in
       absurd (cc (ap (λ xs. slice_get xs h.3) none, h.4))
   object_above s t (object r) e = refl
   object_above s t (raw d zs) e = ap (λ c. ty.Class c []) (same_class d 0 zs [] e).0
@@ -232,10 +232,10 @@ module _ (w : World) (sound : AreSupers w) where
   reference_above s t same r = r
   reference_above s t (through {m = m} a b) r = reference_above m t b (reference_above s m a r)
   reference_above s t (declared {c = d} {args = zs} h) r =
-      let sup = sound.supers d h.0 h.2 h.1 (h.0, h.1, h.3, h.4) in
+      let sup = sups.supers d h.0 h.2 h.1 (h.0, h.1, h.3, h.4) in
       elim h.5 [
-        | inl plain ↦ subst IsReference (sym (plain.1 ∙ ap (substitute zs) sup.1.3 ∙ put_class zs sup.1.0 sup.1.1)) (of_class _ _)
-        | inr bare ↦ subst IsReference (sym (bare.2 ∙ ap erased sup.1.3 ∙ erased_class sup.1.0 sup.1.1)) (of_class _ _)
+        | inl plain ↦ subst IsReference (sym (plain.1 ∙ ap (substitute zs) sup.1.2 ∙ put_class zs sup.1.0 sup.1.1)) (of_class _ _)
+        | inr bare ↦ subst IsReference (sym (bare.2 ∙ ap erased sup.1.2 ∙ erased_class sup.1.0 sup.1.1)) (of_class _ _)
       ]
   reference_above s t (object r') r = of_class _ _
   reference_above s t (raw c xs) r = of_class _ _

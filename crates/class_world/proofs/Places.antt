@@ -5,11 +5,10 @@ use Rattle.std.proofs.Math.Dec.{eqb-suc-zero}
 use Rattle.std.proofs.lemmas.Option.{slice_get_within}
 use Rattle.class_world.specs.declared.world.JavaType.{JavaType}
 use Rattle.class_world.specs.declared.world.JavaType.TheVariants as ty
-use Rattle.class_world.specs.Subtypes.{Parameterizes}
-use Rattle.class_world.specs.Merged.{IsListed, AreSingle, Gains, ClashOne, IsCovered, IsPlaced, HasPlaces, Takes}
+use Rattle.class_world.specs.Merged.{IsListed, AreSingle, ClashOne, IsCovered, IsPlaced, HasPlaces, Takes}
 use Rattle.class_world.proofs.Forms.{same_class}
 use Rattle.class_world.proofs.Words.{set_here, set_there, same_or_other}
-use Rattle.class_world.proofs.Merges.{at_last, at_first, first_or_last, first_or_end, pushed, there_already}
+use Rattle.class_world.proofs.Ends.{at_last, at_first, first_or_last, first_or_end}
 
 -- what a test for an empty list says
 
@@ -113,20 +112,6 @@ module _ (old new : List JavaType) (t : JavaType) (takes : Takes old new t) wher
     | inl same ↦ subst (λ ts. IsCovered ts t) (sym same.0) same.1
     | inr made ↦ (g, xs, xs, is, (length old, ap (λ ts. slice_get ts (length old)) made ∙ at_last old t ∙ ap (λ u. Some u) is), inr refl)
   ]
-
-  pub taken_gains : (g : ℕ) → Parameterizes g t → Gains old new t
-  taken_gains g is = elim takes [
-    | inl same ↦ subst (λ ts. Gains old ts t) (sym same.0) (there_already old t (covered_listed old g t is same.1))
-    | inr made ↦ pushed old new t made
-  ]
-    where
-      covered_listed : (ts : List JavaType) (g : ℕ) (t : JavaType) → Parameterizes g t → IsCovered ts t → IsListed ts t
-      covered_listed ts g t is k =
-          let shape = same_class g k.0 is.0 k.1 (sym is.1 ∙ k.3) in
-          elim k.5 [
-            | inl none ↦ absurd (is.2 (shape.1 ∙ none))
-            | inr alike ↦ (k.4.0, k.4.1 ∙ ap (λ u. Some u) (ap (λ xs. ty.Class k.0 xs) (sym alike) ∙ sym k.3))
-          ]
 
 -- two parameterizations of one class that are listed are the same
 pub placed_single : (ts : List JavaType) (places : List ℕ) → HasPlaces ts places → AreSingle ts

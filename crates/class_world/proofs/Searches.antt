@@ -9,15 +9,15 @@ use Rattle.class_world.specs.declared.world.JavaType.{JavaType}
 use Rattle.class_world.specs.declared.world.JavaType.TheVariants as ty
 use Rattle.class_world.specs.Subclasses.{IsDirectSuper}
 use Rattle.class_world.specs.Subtypes.{Subtype, same, through}
-use Rattle.class_world.specs.Sound.{AreSupers}
+use Rattle.class_world.specs.Sound.{HaveClassSupers}
 use Rattle.class_world.specs.declared.sequence.Visit.{Visit}
 use Rattle.class_world.specs.Merged.{FinishedBefore, IsAboveItself, IsSearch, declared_supers, supers_in}
 use Rattle.class_world.specs.Sequences.{IsSequence}
-use Rattle.class_world.proofs.Forms.{same_class}
 use Rattle.class_world.proofs.Substs.{there_is}
+use Rattle.class_world.proofs.Orders.{class_parts}
 use Rattle.class_world.proofs.Lifts.{bare_declared}
 use Rattle.class_world.proofs.Words.{set_here, set_there, same_or_other, length_set}
-use Rattle.class_world.proofs.Merges.{at_last, at_first, first_or_end}
+use Rattle.class_world.proofs.Ends.{at_last, at_first, first_or_end}
 
 -- how many are not yet seen
 abbrev pub unseen : List Bool → ℕ
@@ -65,15 +65,15 @@ pub length_snoc : {A : Type 0} (xs : List A) (x : A) → length (xs ++ x ∷ [])
 length_snoc [] x = refl
 length_snoc (y ∷ ys) x = let rest = length_snoc ys x in omega (arith, rest)
 
-module _ (w : World) (sound : AreSupers w) where
+module _ (w : World) (sups : HaveClassSupers w) where
   -- the class of a declared supertype is one of the world
   pub super_within : (c g : ℕ) (args : List JavaType) → IsDirectSuper w c (ty.Class g args) → g < length w.types
   super_within c g args h =
-      let sup = (sound.supers c h.0 (ty.Class g args) h.1 h).1 in
-      slice_get_within w.types g sup.2 (subst (λ g. slice_get w.types g ≡ Some sup.2) (sym (same_class g sup.0 args sup.1 sup.3).0) sup.4)
+      let parts = class_parts w h.0.params (ty.Class g args) g args (sups.supers c h.0 (ty.Class g args) h.1 h).0 refl in
+      slice_get_within w.types g parts.0 parts.1
 
   pub super_is_class : (c : ℕ) (d : JavaType) → IsDirectSuper w c d → (g : ℕ) × (args : List JavaType) × (d ≡ ty.Class g args)
-  super_is_class c d h = let sup = (sound.supers c h.0 d h.1 h).1 in (sup.0, sup.1, sup.3)
+  super_is_class c d h = (sups.supers c h.0 d h.1 h).1
 
   pub search_begins : (seen finished : List Bool) (listed : List ℕ) → seen ≡ replicate (length w.types) false → finished ≡ replicate (length w.types) false → listed ≡ []
       → IsSearch w seen finished [] listed
@@ -83,14 +83,20 @@ module _ (w : World) (sound : AreSupers w) where
     stacked = λ i c at. absurd (cc at);
     waiting = λ c is not. absurd (none_seen (length w.types) c (ap (λ bs. slice_get bs c) (sym e) ∙ is));
     chain = λ i j a b le at at'. absurd (cc at);
+    begun = λ c is. absurd (none_seen (length w.types) c (ap (λ bs. slice_get bs c) (sym f) ∙ is));
+    noticed = λ i c at. absurd (cc at);
+    pending = λ i c at. absurd (cc at);
+    apart = λ i j c at. absurd (cc at);
     known = λ i c at. let none : slice_get [] i ≡ Some c = ap (λ xs. slice_get xs i) (sym g) ∙ at in absurd (cc none);
+    over = λ i c at. let none : slice_get [] i ≡ Some c = ap (λ xs. slice_get xs i) (sym g) ∙ at in absurd (cc none);
+    once = λ i j c at. let none : slice_get [] i ≡ Some c = ap (λ xs. slice_get xs i) (sym g) ∙ at in absurd (cc none);
     done = λ c is. absurd (none_seen (length w.types) c (ap (λ bs. slice_get bs c) (sym f) ∙ is));
     before = λ i c h args at. let none : slice_get [] i ≡ Some c = ap (λ xs. slice_get xs i) (sym g) ∙ at in absurd (cc none);
   }
 
-  pub search_enters : (seen new finished : List Bool) (listed : List ℕ) (start : ℕ) → IsSearch w seen finished [] listed → start < length w.types → new ≡ slice_set seen start true
+  pub search_enters : (seen new finished : List Bool) (listed : List ℕ) (start : ℕ) → IsSearch w seen finished [] listed → start < length w.types → slice_get seen start ≡ Some false → new ≡ slice_set seen start true
       → IsSearch w new finished (start ∷ []) listed
-  search_enters seen new finished listed start h lt made = record {
+  search_enters seen new finished listed start h lt fresh made = record {
     seen_size = ap length made ∙ length_set seen start true ∙ h.seen_size;
     finished_size = h.finished_size;
     stacked = one;
@@ -99,7 +105,17 @@ module _ (w : World) (sound : AreSupers w) where
       | inr other ↦ let k = h.waiting c (set_before seen start c true other (ap (λ bs. slice_get bs c) (sym made) ∙ is)) not in absurd (cc k.1)
     ];
     chain = one_chain;
+    begun = λ c is. ap (λ bs. slice_get bs c) made ∙ set_kept seen start c (h.begun c is);
+    noticed = λ i c at. subst (λ c. slice_get new c ≡ Some true) (start_is i c at).0
+        (ap (λ bs. slice_get bs start) made ∙ set_here seen start true (subst (λ n. start < n) (sym h.seen_size) lt));
+    pending = λ i c at. subst (λ c. slice_get finished c ≡ Some false) (start_is i c at).0 (elim (flag_at finished start (subst (λ n. start < n) (sym h.finished_size) lt)) [
+      | inl done ↦ let never = h.begun start done in absurd (cc (never, fresh))
+      | inr open_yet ↦ open_yet
+    ]);
+    apart = λ i j c at at'. (start_is i c at).1 ∙ sym (start_is j c at').1;
     known = h.known;
+    over = h.over;
+    once = h.once;
     done = h.done;
     before = h.before;
   }
@@ -107,6 +123,10 @@ module _ (w : World) (sound : AreSupers w) where
       one : (i c : ℕ) → slice_get (start ∷ []) i ≡ Some c → c < length w.types
       one zero c at = let e : start ≡ c = cc at in subst (λ c. c < length w.types) e lt
       one (suc i) c at = absurd (cc at)
+
+      start_is : (i c : ℕ) → slice_get (start ∷ []) i ≡ Some c → (start ≡ c) × (i ≡ 0)
+      start_is zero c at = (cc at, refl)
+      start_is (suc i) c at = absurd (cc at)
 
       one_chain : (i j a b : ℕ) → i ≤ j → slice_get (start ∷ []) i ≡ Some a → slice_get (start ∷ []) j ≡ Some b → Subtype w (ty.Class a []) (ty.Class b [])
       one_chain zero zero a b le at at' = let e : a ≡ b = cc (at, at') in subst (λ b. Subtype w (ty.Class a []) (ty.Class b [])) e same
@@ -122,7 +142,11 @@ module _ (w : World) (sound : AreSupers w) where
       → IsSearch w seen new rest longer
   search_leaves seen finished new stack rest listed longer top h is_stack is_new is_longer supers =
       let in_stack : (i c : ℕ) → slice_get rest i ≡ Some c → slice_get stack i ≡ Some c = λ i c at. ap (λ xs. slice_get xs i) is_stack ∙ at_first rest top c i at in
-      let top_lt : top < length w.types = h.stacked (length rest) top (ap (λ xs. slice_get xs (length rest)) is_stack ∙ at_last rest top) in
+      let top_at : slice_get stack (length rest) ≡ Some top = ap (λ xs. slice_get xs (length rest)) is_stack ∙ at_last rest top in
+      let never : (k c : ℕ) → slice_get listed k ≡ Some c → c ≡ top → ⊥ = λ k c was e. let done = h.over k c was in let yet = h.pending (length rest) top top_at in cc (done, yet, e) in
+      let in_list : (i c : ℕ) → slice_get longer i ≡ Some c → (slice_get listed i ≡ Some c) ⊎ ((c ≡ top) × (i ≡ length listed)) =
+      λ i c at. first_or_end listed top c i (ap (λ xs. slice_get xs i) (sym is_longer) ∙ at) in
+      let top_lt : top < length w.types = h.stacked (length rest) top top_at in
       let top_set : slice_get new top ≡ Some true = ap (λ bs. slice_get bs top) is_new ∙ set_here finished top true (subst (λ n. top < n) (sym h.finished_size) top_lt) in
       let last_at : slice_get longer (length listed) ≡ Some top = ap (λ xs. slice_get xs (length listed)) is_longer ∙ at_last listed top in
       let keep : (i c : ℕ) → slice_get listed i ≡ Some c → slice_get longer i ≡ Some c = λ i c at. ap (λ xs. slice_get xs i) is_longer ∙ at_first listed top c i at in
@@ -137,9 +161,30 @@ module _ (w : World) (sound : AreSupers w) where
               elim (first_or_end rest top c k.0 (ap (λ xs. slice_get xs k.0) (sym is_stack) ∙ k.1)) [ inl at ↦ (k.0, at) | inr last ↦ absurd (other (sym last.0)) ]
         ];
         chain = λ i j a b le at at'. h.chain i j a b le (in_stack i a at) (in_stack j b at');
+        begun = λ c is. elim (same_or_other top c) [
+          | inl e ↦ subst (λ c. slice_get seen c ≡ Some true) e (h.noticed (length rest) top top_at)
+          | inr other ↦ h.begun c (set_before finished top c true other (ap (λ bs. slice_get bs c) (sym is_new) ∙ is))
+        ];
+        noticed = λ i c at. h.noticed i c (in_stack i c at);
+        pending = λ i c at. elim (same_or_other top c) [
+          | inl e ↦
+              let within = slice_get_within rest i c at in
+              let place : i ≡ length rest = h.apart i (length rest) c (in_stack i c at) (top_at ∙ ap (λ x. Some x) e) in
+              absurd (omega (arith, within, place))
+          | inr other ↦ ap (λ bs. slice_get bs c) is_new ∙ set_there finished top c true other ∙ h.pending i c (in_stack i c at)
+        ];
+        apart = λ i j c at at'. h.apart i j c (in_stack i c at) (in_stack j c at');
         known = λ i c at. elim (first_or_end listed top c i (ap (λ xs. slice_get xs i) (sym is_longer) ∙ at)) [
           | inl was ↦ h.known i c was
           | inr last ↦ subst (λ c. c < length w.types) (sym last.0) top_lt
+        ];
+        over = λ i c at. elim (in_list i c at) [
+          | inl was ↦ ap (λ bs. slice_get bs c) is_new ∙ set_kept finished top c (h.over i c was)
+          | inr last ↦ subst (λ c. slice_get new c ≡ Some true) (sym last.0) top_set
+        ];
+        once = λ i j c at at'. elim (in_list i c at) [
+          | inl was ↦ elim (in_list j c at') [ inl too ↦ h.once i j c was too | inr last ↦ absurd (never i c was last.0) ]
+          | inr last ↦ elim (in_list j c at') [ inl was ↦ absurd (never j c was last.0) | inr too ↦ last.1 ∙ sym too.1 ]
         ];
         done = λ c is. elim (same_or_other top c) [
           | inl e ↦ (length listed, last_at ∙ ap (λ x. Some x) e)
@@ -156,13 +201,14 @@ module _ (w : World) (sound : AreSupers w) where
 
   -- a class not seen comes on top
   pub search_goes_up : (seen new finished : List Bool) (stack rest longer listed : List ℕ) (top g : ℕ) (args : List JavaType) → IsSearch w seen finished stack listed → stack ≡ rest ++ top ∷ []
-      → new ≡ slice_set seen g true → longer ≡ stack ++ g ∷ [] → IsDirectSuper w top (ty.Class g args) → IsSearch w new finished longer listed
-  search_goes_up seen new finished stack rest longer listed top g args h is_stack is_new is_longer super =
+      → slice_get seen g ≡ Some false → new ≡ slice_set seen g true → longer ≡ stack ++ g ∷ [] → IsDirectSuper w top (ty.Class g args) → IsSearch w new finished longer listed
+  search_goes_up seen new finished stack rest longer listed top g args h is_stack fresh is_new is_longer super =
       let lt : g < length w.types = super_within top g args super in
       let top_at : slice_get stack (length rest) ≡ Some top = ap (λ xs. slice_get xs (length rest)) is_stack ∙ at_last rest top in
-      let up : Subtype w (ty.Class top []) (ty.Class g []) = bare_declared w sound top super.0 (ty.Class g args) super.2 super.1 super.3 g args refl in
+      let up : Subtype w (ty.Class top []) (ty.Class g []) = bare_declared w sups top super.0 (ty.Class g args) super.2 super.1 super.3 g args refl in
       let old_or_last : (i c : ℕ) → slice_get longer i ≡ Some c → (slice_get stack i ≡ Some c) ⊎ ((c ≡ g) × (i ≡ length stack)) =
       λ i c at. first_or_end stack g c i (ap (λ xs. slice_get xs i) (sym is_longer) ∙ at) in
+      let never : (k c : ℕ) → slice_get stack k ≡ Some c → c ≡ g → ⊥ = λ k c was e. let noticed = h.noticed k c was in cc (noticed, fresh, e) in
       let size : length stack ≡ length rest + 1 = ap length is_stack ∙ longer_by_one rest top in
       record {
         seen_size = ap length is_new ∙ length_set seen g true ∙ h.seen_size;
@@ -186,7 +232,25 @@ module _ (w : World) (sound : AreSupers w) where
             | inr last_b ↦ subst (λ b. Subtype w (ty.Class a []) (ty.Class b [])) (last_a.0 ∙ sym last_b.0) same
           ]
         ];
+        begun = λ c is. ap (λ bs. slice_get bs c) is_new ∙ set_kept seen g c (h.begun c is);
+        noticed = λ i c at. elim (old_or_last i c at) [
+          | inl was ↦ ap (λ bs. slice_get bs c) is_new ∙ set_kept seen g c (h.noticed i c was)
+          | inr last ↦ subst (λ c. slice_get new c ≡ Some true) (sym last.0) (ap (λ bs. slice_get bs g) is_new ∙ set_here seen g true (subst (λ n. g < n) (sym h.seen_size) lt))
+        ];
+        pending = λ i c at. elim (old_or_last i c at) [
+          | inl was ↦ h.pending i c was
+          | inr last ↦ subst (λ c. slice_get finished c ≡ Some false) (sym last.0) (elim (flag_at finished g (subst (λ n. g < n) (sym h.finished_size) lt)) [
+            | inl done ↦ let was = h.begun g done in absurd (cc (was, fresh))
+            | inr open_yet ↦ open_yet
+          ])
+        ];
+        apart = λ i j c at at'. elim (old_or_last i c at) [
+          | inl was ↦ elim (old_or_last j c at') [ inl too ↦ h.apart i j c was too | inr last ↦ absurd (never i c was last.0) ]
+          | inr last ↦ elim (old_or_last j c at') [ inl was ↦ absurd (never j c was last.0) | inr too ↦ last.1 ∙ sym too.1 ]
+        ];
         known = h.known;
+        over = h.over;
+        once = h.once;
         done = h.done;
         before = h.before;
       }
@@ -210,6 +274,7 @@ module _ (w : World) (sound : AreSupers w) where
   pub search_ends : (seen finished : List Bool) (listed : List ℕ) → IsSearch w seen finished [] listed → ((c : ℕ) → c < length w.types → slice_get seen c ≡ Some true) → IsSequence w listed
   search_ends seen finished listed h all = record {
     known = h.known;
+    once = h.once;
     all = λ c lt. elim (flag_at finished c (subst (λ n. c < n) (sym h.finished_size) lt)) [
       | inl is ↦ h.done c is
       | inr not ↦ let k = h.waiting c (all c lt) not in absurd (cc k.1)

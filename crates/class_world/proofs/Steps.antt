@@ -7,7 +7,7 @@ use Rattle.class_world.specs.declared.world.JavaType.{JavaType}
 use Rattle.class_world.specs.declared.world.JavaType.TheVariants as ty
 use Rattle.class_world.specs.Types.{object_type, substitute, erased, variables, IsTypeOver, a_primitive, the_null, a_class, a_variable, an_array}
 use Rattle.class_world.specs.Subtypes.{Subtype, same, through, declared, object, raw, null, arrays, char_int, int_long, IsDeclaredSuper}
-use Rattle.class_world.specs.Sound.{AreSupers}
+use Rattle.class_world.specs.Sound.{HaveClassSupers}
 use Rattle.class_world.proofs.Forms.{primitive_kind, null_kind, class_kind, array_kind, same_class}
 use Rattle.class_world.proofs.Substs.{put_primitive, put_null, put_class, put_array, put_at, map_same, there_is, erased_class, variables_length, variables_at}
 use Rattle.class_world.proofs.Orders.{class_parts, bare_over, object_above}
@@ -26,7 +26,7 @@ put_same w n t (a_variable {k = k} lt) =
     put_at (variables 0 n) k at.0 at.1 ∙ is.0 ∙ ap ty.Var zero_first
 put_same w n t (an_array {element = x} some part) = put_array _ x ∙ ap ty.Array (put_same w n x part)
 
-module _ (w : World) (sound : AreSupers w) where
+module _ (w : World) (sups : HaveClassSupers w) where
   -- the ways up from a class type
   abbrev pub Up : ℕ → List JavaType → JavaType → Type 0
   Up c xs t = (t ≡ ty.Class c xs) ⊎ (t ≡ ty.Class c []) ⊎ (t ≡ object_type) ⊎ ((m : JavaType) × IsDeclaredSuper w c xs m × Subtype w m t)
@@ -35,19 +35,19 @@ module _ (w : World) (sound : AreSupers w) where
   from_raw : (n c : ℕ) (xs : List JavaType) (m t : JavaType) → IsTypeOver w n (ty.Class c xs) → IsDeclaredSuper w c [] m → Subtype w m t → (k : JavaType) × IsDeclaredSuper w c xs k × Subtype w k t
   from_raw n c xs m t over h up =
       let parts = class_parts w n (ty.Class c xs) c xs over refl in
-      let sup = sound.supers c h.0 h.2 h.1 (h.0, h.1, h.3, h.4) in
+      let sup = sups.supers c h.0 h.2 h.1 (h.0, h.1, h.3, h.4) in
       let same_info : parts.0 ≡ h.0 = cc (parts.1, h.1) in
       elim parts.2 [
         | inl none ↦ (m, subst (λ xs. IsDeclaredSuper w c xs m) (sym none) h, up)
         | inr len ↦
             let count : length xs ≡ h.0.params = len ∙ ap (λ (i : TypeInfo). i.params) same_info in
-            let shape : substitute xs h.2 ≡ ty.Class sup.1.0 (map (substitute xs) sup.1.1) = ap (substitute xs) sup.1.3 ∙ put_class xs sup.1.0 sup.1.1 in
+            let shape : substitute xs h.2 ≡ ty.Class sup.1.0 (map (substitute xs) sup.1.1) = ap (substitute xs) sup.1.2 ∙ put_class xs sup.1.0 sup.1.1 in
             elim h.5 [
               | inl plain ↦
                   let none : xs ≡ [] = no_items xs (count ∙ sym plain.0) in
                   (m, subst (λ xs. IsDeclaredSuper w c xs m) (sym none) h, up)
               | inr bare ↦
-                  let flat : m ≡ ty.Class sup.1.0 [] = bare.2 ∙ ap erased sup.1.3 ∙ erased_class sup.1.0 sup.1.1 in
+                  let flat : m ≡ ty.Class sup.1.0 [] = bare.2 ∙ ap erased sup.1.2 ∙ erased_class sup.1.0 sup.1.1 in
                   let low : Subtype w (substitute xs h.2) m = subst (λ k. Subtype w k m) (sym shape) (subst (Subtype w (ty.Class sup.1.0 (map (substitute xs) sup.1.1))) (sym flat) (raw _ _)) in
                   (substitute xs h.2, (h.0, h.1, h.2, h.3, h.4, inl (count, refl)), through low up)
             ]
@@ -70,7 +70,7 @@ module _ (w : World) (sound : AreSupers w) where
               | inr (inr (inl k)) ↦ inr (inr (inl k))
               | inr (inr (inr k)) ↦ inr (inr (inr (from_raw n c xs k.0 t over k.1 k.2)))
             ]
-        | inr (inr (inl top)) ↦ inr (inr (inl (object_above w sound m t b top)))
+        | inr (inr (inl top)) ↦ inr (inr (inl (object_above w sups m t b top)))
         | inr (inr (inr k)) ↦ inr (inr (inr (k.0, k.1, through k.2 b)))
       ]
   step_up s t (declared {c = d} {args = zs} h) n c xs e over =

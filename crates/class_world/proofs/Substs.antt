@@ -123,6 +123,18 @@ variables_at k (suc n) (suc i) t e =
     let same : k + 1 + i ≡ k + suc i = omega arith in
     (h.0 ∙ ap ty.Var same, omega (arith, h.1))
 
+pub variables_last : (j n : ℕ) → variables j (suc n) ≡ variables j n ++ ty.Var (j + n) ∷ []
+variables_last j zero = let e : j ≡ j + 0 = omega arith in ap (λ k. ty.Var k ∷ []) e
+variables_last j (suc n) =
+    let e : j + 1 + n ≡ j + suc n = omega arith in
+    ap (λ l. ty.Var j ∷ l) (variables_last (j + 1) n ∙ ap (λ k. variables (j + 1) n ++ ty.Var k ∷ []) e)
+
+pub next_variable : (n : ℕ) (vs new : List JavaType) → vs ≡ variables 0 n → new ≡ vs ++ ty.Var n ∷ [] → new ≡ variables 0 (n + 1)
+next_variable n vs new before made =
+    let zero_first : 0 + n ≡ n = omega arith in
+    let e : n + 1 ≡ suc n = omega arith in
+    made ∙ ap (λ l. l ++ ty.Var n ∷ []) before ∙ ap (λ k. variables 0 n ++ ty.Var k ∷ []) (sym zero_first) ∙ sym (variables_last 0 n) ∙ ap (variables 0) (sym e)
+
 -- the arguments from the k-th on, put for the variables from k on
 own_from : (args xs : List JavaType) (k n : ℕ) → length xs ≡ n → ((i : ℕ) → slice_get args (k + i) ≡ slice_get xs i) → map (substitute args) (variables k n) ≡ xs
 own_from args [] k zero len at = refl

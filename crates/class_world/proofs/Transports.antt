@@ -10,10 +10,10 @@ use Rattle.class_world.specs.declared.world.JavaType.TheVariants as ty
 use Rattle.class_world.specs.Subclasses.{IsDirectSuper}
 use Rattle.class_world.specs.Types.{IsTypeOver, a_primitive, the_null, a_class, a_variable, an_array}
 use Rattle.class_world.specs.Subtypes.{Subtype, same, through, declared, object, raw, null, arrays, char_int, int_long}
-use Rattle.class_world.specs.Sound.{AreSupers, IsRow, IsSingle, IsSound}
+use Rattle.class_world.specs.Sound.{AreSupers, IsRow, IsSound}
 use Rattle.class_world.specs.Merged.{HasRow}
 use Rattle.class_world.specs.Sequences.{IsSequence}
-use Rattle.class_world.specs.Ordered.{IsFilledAt}
+use Rattle.class_world.specs.Ordered.{IsSingleClass}
 use Rattle.class_world.proofs.Words.{set_here, set_there, same_or_other}
 
 -- a row that is written
@@ -30,19 +30,16 @@ row_kept w rows c g info row at is lt has = elim (same_or_other c g) [
   | inr other ↦ λ i there. let h = has i there in (h.0, set_there rows c g row other ∙ h.1, h.2)
 ]
 
-pub row_single : (w : World) (c : ℕ) (info : TypeInfo) → slice_get w.types c ≡ Some info → IsSingle w c info.params → (i : TypeInfo) → slice_get w.types c ≡ Some i → IsSingle w c i.params
-row_single w c info at single i at' = let alike : info ≡ i = cc (at, at') in subst (λ (j : TypeInfo). IsSingle w c j.params) alike single
-
 lower_or_last : (k i : ℕ) → k < i + 1 → (k < i) ⊎ (k ≡ i)
 lower_or_last k i h = grind (arith, h)
 
-pub fill_next : (w : World) (listed : List ℕ) (old new : List Above) (i x : ℕ) → ((k c : ℕ) → k < i → slice_get listed k ≡ Some c → IsFilledAt w old c) → ((g : ℕ) → HasRow w old g → HasRow w new g)
-    → slice_get listed i ≡ Some x → IsFilledAt w new x → (k c : ℕ) → k < i + 1 → slice_get listed k ≡ Some c → IsFilledAt w new c
+pub fill_next : (w : World) (listed : List ℕ) (old new : List Above) (i x : ℕ) → ((k c : ℕ) → k < i → slice_get listed k ≡ Some c → HasRow w old c) → ((g : ℕ) → HasRow w old g → HasRow w new g)
+    → slice_get listed i ≡ Some x → HasRow w new x → (k c : ℕ) → k < i + 1 → slice_get listed k ≡ Some c → HasRow w new c
 fill_next w listed old new i x before kept at here k c lt at' = elim (lower_or_last k i lt) [
-  | inl low ↦ let h = before k c low at' in (kept c h.0, h.1)
+  | inl low ↦ kept c (before k c low at')
   | inr last ↦
       let alike : x ≡ c = cc (at, ap (slice_get listed) (sym last) ∙ at') in
-      subst (IsFilledAt w new) alike here
+      subst (HasRow w new) alike here
 ]
 
 pub all_next : {A : Type 0} (seen : List A) (b : A) (start : ℕ) → ((c : ℕ) → c < start → slice_get seen c ≡ Some b) → slice_get seen start ≡ Some b → (c : ℕ) → c < start + 1 → slice_get seen c ≡ Some b
@@ -54,7 +51,7 @@ pick : {P : Type 0} → P ⊎ (P → ⊥) → ℕ → ℕ
 pick (inl e) n = 0
 pick (inr other) n = suc n
 
-place : List ℕ → ℕ → ℕ
+pub place : List ℕ → ℕ → ℕ
 place [] c = 0
 place (x ∷ xs) c = pick (same_or_other x c) (place xs c)
 
@@ -71,6 +68,15 @@ place_at (x ∷ xs) (suc i) c e = go (same_or_other x c) (place_at xs i c e)
     go : (d : (x ≡ c) ⊎ (x ≡ c → ⊥)) → (place xs c ≤ i) × (slice_get xs (place xs c) ≡ Some c) → (pick d (place xs c) ≤ suc i) × (slice_get (x ∷ xs) (pick d (place xs c)) ≡ Some c)
     go (inl h) low = (omega arith, ap (λ y. Some y) h)
     go (inr other) low = (omega (arith, low.0), low.1)
+
+-- in a sequence the classes of declared supertypes come earlier
+pub place_falls : (w : World) (listed : List ℕ) → IsSequence w listed → (c g : ℕ) (args : List JavaType) → IsDirectSuper w c (ty.Class g args) → place listed g < place listed c
+place_falls w listed seq c g args h =
+    let in_list = seq.all c (slice_get_within w.types c h.0 h.1) in
+    let first = place_at listed in_list.0 c in_list.1 in
+    let under = seq.before (place listed c) c g args first.1 h in
+    let second = place_at listed under.0 g under.2 in
+    omega (arith, second.0, under.1)
 
 -- from a world to one with the same types
 
@@ -111,26 +117,19 @@ module _ (w v : World) (e : w.types ≡ v.types) where
   row_there : (c n : ℕ) (a : Above) → IsRow w c n a → IsRow v c n a
   row_there c n a r = record {
     types = λ g. (λ h. ordered w v e _ _ ((r.types g).0 h), λ h. (r.types g).1 (ordered v w (sym e) _ _ h));
-    bases = λ b. (λ h. let k = (r.bases b).0 h in (k.0, ordered w v e _ _ k.1), λ h. (r.bases b).1 (h.0, ordered v w (sym e) _ _ h.1));
-    raw_bases = λ some b. (λ h. let k = (r.raw_bases some b).0 h in (k.0, ordered w v e _ _ k.1), λ h. (r.raw_bases some b).1 (h.0, ordered v w (sym e) _ _ h.1));
+    raw_bases = λ some g. (
+      λ h. let k = (r.raw_bases some g).0 h in (k.0, k.1, ordered w v e _ _ k.2),
+      λ h. (r.raw_bases some g).1 (h.0, h.1, ordered v w (sym e) _ _ h.2),
+    );
   }
 
-  pub sound_there : (listed : List ℕ) (rows : List Above) → AreSupers w → IsSequence w listed → ((c : ℕ) → c < length w.types → IsFilledAt w rows c) → v.above ≡ rows → IsSound v
-  sound_there listed rows sup seq filled above = record {
+  pub sound_there : (listed : List ℕ) (rows : List Above) → AreSupers w → IsSequence w listed → ((c : ℕ) → HasRow w rows c) → ((c : ℕ) → IsSingleClass w c) → v.above ≡ rows → IsSound v
+  sound_there listed rows sup seq filled singles above = record {
     declared = supers_there sup;
     rank = place listed;
-    falls = λ c g args h.
-        let low = direct v w (sym e) c (ty.Class g args) h in
-        let in_list = seq.all c (slice_get_within w.types c low.0 low.1) in
-        let first = place_at listed in_list.0 c in_list.1 in
-        let under = seq.before (place listed c) c g args first.1 low in
-        let second = place_at listed under.0 g under.2 in
-        omega (arith, second.0, under.1);
-    single = λ c info at g t u p q a b.
-        let at' = known v w (sym e) c info at in
-        (filled c (slice_get_within w.types c info at')).1 info at' g t u p q (ordered v w (sym e) _ _ a) (ordered v w (sym e) _ _ b);
+    falls = λ c g args h. place_falls w listed seq c g args (direct v w (sym e) c (ty.Class g args) h);
+    single = λ c info at g t u p q a b. singles c info (known v w (sym e) c info at) g t u p q (ordered v w (sym e) _ _ a) (ordered v w (sym e) _ _ b);
     rows = λ c info at.
-        let at' = known v w (sym e) c info at in
-        let h = (filled c (slice_get_within w.types c info at')).0 info at' in
+        let h = filled c info (known v w (sym e) c info at) in
         (h.0, ap (λ rs. slice_get rs c) above ∙ h.1, row_there c info.params h.0 h.2);
   }

@@ -1,12 +1,13 @@
 -- Bits in a list of words.
-use Rattle.std.proofs.Common.{◌≡◌, ℕ, ◌+◌, ◌*◌, ◌/◌, ◌%◌, ◌<◌, ◌≤◌, zero, suc, List, [], ◌∷◌, Some, ◌⊎◌, ◌↔◌, inl, inr, refl, sym, ap, ◌∙◌, ◌++◌, length, bit_or, w64, arith}
+use Rattle.std.proofs.Common.{◌≡◌, ℕ, ◌+◌, ◌*◌, ◌/◌, ◌%◌, ◌<◌, zero, suc, true, List, [], ◌∷◌, Some, None, ◌⊎◌, ◌↔◌, inl, inr, refl, sym, ap, ◌∙◌, ◌++◌, subst, length, nat_eq, bit_or, bit_and, w64, arith}
+use Rattle.std.proofs.lemmas.Bool.{eq-eqb}
 use Rattle.std.proofs.lemmas.Grind.{common_steps}
-use Rattle.std.specs.Prelude.{slice_get, slice_set, slice_index_or as get_or, ◌^◌, max, take, drop}
+use Rattle.std.specs.Prelude.{slice_get, slice_set, slice_index_or as get_or, ◌^◌, IsTrue, max, min, replicate, take, drop}
 use Rattle.std.specs.Int.{bit_at}
-use Rattle.std.proofs.lemmas.Nat.Bits.{bit_at_or, bit_at-lt, bit_at_set_same, bit_at_set_other}
+use Rattle.std.proofs.lemmas.Nat.Bits.{bit_at_and, bit_at_or, bit_at-lt, bit_at-zero, bit_at_set_same, bit_at_set_other, shr_and_one}
 use Rattle.std.proofs.lemmas.Option.{slice_get_read, slice_get_within}
 use Rattle.class_world.specs.Sound.{IsSet}
-use Rattle.class_world.specs.Merged.{Sets, SetsAll, AreWithin}
+use Rattle.class_world.specs.Merged.{Sets}
 
 pub set_here : {A : Type 0} (xs : List A) (i : ℕ) (v : A) → i < length xs → slice_get (slice_set xs i v) i ≡ Some v
 set_here [] i v lt = absurd (omega (arith, lt))
@@ -81,13 +82,13 @@ left_bit a b i e = bit_at_or a b i ∙ omega (arith, e, bit_at-lt b i)
 right_bit : (a b i : ℕ) → bit_at b i ≡ 1 → bit_at (bit_or a b) i ≡ 1
 right_bit a b i e = bit_at_or a b i ∙ omega (arith, e, bit_at-lt a i)
 
--- the bits of the words before the i-th, put together
-abbrev pub SetsBefore : List ℕ → List ℕ → List ℕ → ℕ → Type 0
-SetsBefore old new more i = (h : ℕ) → IsSet new h ↔ (IsSet old h ⊎ (IsSet more h × (h / 64 < i)))
+-- the bits that were, and those of the words before the i-th for which P holds
+abbrev pub SetsBefore : List ℕ → List ℕ → (ℕ → Type 0) → ℕ → Type 0
+SetsBefore old new P i = (h : ℕ) → IsSet new h ↔ (IsSet old h ⊎ (P h × (h / 64 < i)))
 
-pub more_set : (old words more new : List ℕ) (i a b : ℕ) → SetsBefore old words more i → slice_get words i ≡ Some a → slice_get more i ≡ Some b → new ≡ slice_set words i (bit_or a b)
-    → SetsBefore old new more (i + 1)
-more_set old words more new i a b before at at' made h = elim (same_or_other i (h / 64)) [
+pub more_set : (old words new : List ℕ) (P : ℕ → Type 0) (i a b : ℕ) → SetsBefore old words P i → slice_get words i ≡ Some a → ((h : ℕ) → i ≡ h / 64 → P h ↔ (bit_at b (h % 64) ≡ 1)) → new ≡ slice_set words i (bit_or a b)
+    → SetsBefore old new P (i + 1)
+more_set old words new P i a b before at told made h = elim (same_or_other i (h / 64)) [
   | inr other ↦
       let there : slice_get new (h / 64) ≡ slice_get words (h / 64) = ap (λ ws. slice_get ws (h / 64)) made ∙ set_there words i (h / 64) _ other in (
         λ is. elim ((before h).0 (moved new words h (sym there) is)) [ inl was ↦ inl was | inr m ↦ inr (m.0, omega (arith, m.1)) ],
@@ -95,16 +96,15 @@ more_set old words more new i a b before at at' made h = elim (same_or_other i (
       )
   | inl place ↦
       let first : slice_get words (h / 64) ≡ Some a = ap (slice_get words) (sym place) ∙ at in
-      let second : slice_get more (h / 64) ≡ Some b = ap (slice_get more) (sym place) ∙ at' in
       let after : slice_get new (h / 64) ≡ Some (bit_or a b) =
       ap (λ ws. slice_get ws (h / 64)) made ∙ ap (slice_get (slice_set words i _)) (sym place) ∙ set_here words i _ (slice_get_within words i a at) in (
         λ is. elim (either_bit a b (h % 64) (reads new h _ after is)) [
           | inl one ↦ elim ((before h).0 (a, first, one)) [ inl was ↦ inl was | inr m ↦ inr (m.0, omega (arith, m.1)) ]
-          | inr one ↦ inr ((b, second, one), omega (arith, place))
+          | inr one ↦ inr ((told h place).1 one, omega (arith, place))
         ],
         λ is. elim is [
           | inl was ↦ (_, after, left_bit a b (h % 64) (reads words h a first ((before h).1 (inl was))))
-          | inr m ↦ (_, after, right_bit a b (h % 64) (reads more h b second m.0))
+          | inr m ↦ (_, after, right_bit a b (h % 64) ((told h place).0 m.0))
         ],
       )
 ]
@@ -115,17 +115,72 @@ more_set old words more new i a b before at at' made h = elim (same_or_other i (
     lower (suc i) zero lt other = omega arith
     lower (suc i) (suc k) lt other = let low = lower i k (omega (arith, lt)) (λ e. other (ap suc e)) in omega (arith, low)
 
-pub none_more : (old words more : List ℕ) (i n : ℕ) → SetsBefore old words more i → AreWithin more n → n ≤ i → SetsBefore old words more (i + 1)
-none_more old words more i n before within le h = (
+-- what the word at a place has
+pub word_told : (more : List ℕ) (i b : ℕ) → slice_get more i ≡ Some b → (h : ℕ) → i ≡ h / 64 → IsSet more h ↔ (bit_at b (h % 64) ≡ 1)
+word_told more i b at h place =
+    let there : slice_get more (h / 64) ≡ Some b = ap (slice_get more) (sym place) ∙ at in
+    (reads more h b there, λ one. (b, there, one))
+
+-- what the words at a place both have
+pub both_told : (more mask : List ℕ) (i b m : ℕ) → slice_get more i ≡ Some b → slice_get mask i ≡ Some m → (h : ℕ) → i ≡ h / 64 → (IsSet more h × IsSet mask h) ↔ (bit_at (bit_and b m) (h % 64) ≡ 1)
+both_told more mask i b m at at' h place =
+    let first = word_told more i b at h place in
+    let second = word_told mask i m at' h place in (
+      λ is. let x = first.0 is.0 in let y = second.0 is.1 in bit_at_and b m (h % 64) ∙ omega (arith, x, y),
+      λ one.
+          let least : min (bit_at b (h % 64)) (bit_at m (h % 64)) ≡ 1 = sym (bit_at_and b m (h % 64)) ∙ one in
+          (first.1 (omega (arith, least, bit_at-lt b (h % 64), bit_at-lt m (h % 64))), second.1 (omega (arith, least, bit_at-lt b (h % 64), bit_at-lt m (h % 64)))),
+    )
+
+-- where P holds for no bit of the i-th word
+pub none_more : (old words : List ℕ) (P : ℕ → Type 0) (i : ℕ) → SetsBefore old words P i → ((h : ℕ) → i ≡ h / 64 → P h → ⊥) → SetsBefore old words P (i + 1)
+none_more old words P i before none h = (
   λ is. elim ((before h).0 is) [ inl was ↦ inl was | inr m ↦ inr (m.0, omega (arith, m.1)) ],
-  λ is. (before h).1 (elim is [ inl was ↦ inl was | inr m ↦ let lt = within h m.0 in inr (m.0, omega (arith, lt, le)) ]),
+  λ is. (before h).1 (elim is [ inl was ↦ inl was | inr m ↦ elim (lower_or_last (h / 64) i m.1) [ inl low ↦ inr (m.0, low) | inr last ↦ absurd (none h (sym last) m.0) ] ]),
+)
+  where
+    lower_or_last : (k i : ℕ) → k < i + 1 → (k < i) ⊎ (k ≡ i)
+    lower_or_last k i h = grind (arith, h)
+
+pub none_before : (old new : List ℕ) (P : ℕ → Type 0) → new ≡ old → SetsBefore old new P 0
+none_before old new P made h = (λ is. inl (subst (λ ws. IsSet ws h) made is), λ is. elim is [ inl was ↦ subst (λ ws. IsSet ws h) (sym made) was | inr m ↦ absurd (omega (arith, m.1)) ])
+
+pub all_set : (old words : List ℕ) (P : ℕ → Type 0) (i : ℕ) → SetsBefore old words P i → ((h : ℕ) → P h → h / 64 < i) → (h : ℕ) → IsSet words h ↔ (IsSet old h ⊎ P h)
+all_set old words P i before all h = (
+  λ is. elim ((before h).0 is) [ inl was ↦ inl was | inr m ↦ inr m.0 ],
+  λ is. (before h).1 (elim is [ inl was ↦ inl was | inr p ↦ inr (p, all h p) ]),
 )
 
-pub all_set : (old words more : List ℕ) (i : ℕ) → SetsBefore old words more i → length more ≤ i → SetsAll old words more
-all_set old words more i before le h = (
-  λ is. elim ((before h).0 is) [ inl was ↦ inl was | inr m ↦ inr m.0 ],
-  λ is. (before h).1 (elim is [ inl was ↦ inl was | inr m ↦ let lt = slice_get_within more (h / 64) m.0 m.1 in inr (m, omega (arith, lt, le)) ]),
+pub set_within : (words : List ℕ) (h : ℕ) → IsSet words h → h / 64 < length words
+set_within words h is = slice_get_within words (h / 64) is.0 is.1
+
+-- words without a bit
+pub zeros_clear : (n : ℕ) (words : List ℕ) → words ≡ replicate n 0 → (g : ℕ) → IsSet words g → ⊥
+zeros_clear n words made g is = none n (g / 64) is.0 (ap (λ ws. slice_get ws (g / 64)) (sym made) ∙ is.1) is.2
+  where
+    none : (n k word : ℕ) → slice_get (replicate n 0) k ≡ Some word → bit_at word (g % 64) ≡ 1 → ⊥
+    none zero k word e one = cc e
+    none (suc n) zero word e one =
+        let zero_is : 0 ≡ word = cc e in
+        let bit : bit_at 0 (g % 64) ≡ 1 = subst (λ m. bit_at m (g % 64) ≡ 1) (sym zero_is) one in
+        absurd (omega (arith, bit, bit_at-zero (g % 64)))
+    none (suc n) (suc k) word e one = none n k word e one
+
+-- a bit that is read
+
+pub set_told : (words : List ℕ) (g word : ℕ) → slice_get words (g / 64) ≡ Some word → IsTrue (nat_eq (bit_and (word / 2 ^ (g % 64)) 1) 1) ↔ IsSet words g
+set_told words g word at = (
+  λ h. (word, at, sym (shr_and_one word (g % 64)) ∙ from_test _ _ h),
+  λ h.
+      let is : h.0 ≡ word = cc (h.1, at) in
+      eq-eqb _ _ (shr_and_one word (g % 64) ∙ ap (λ n. bit_at n (g % 64)) (sym is) ∙ h.2),
 )
+  where
+    from_test : (a b : ℕ) → nat_eq a b ≡ true → a ≡ b
+    from_test a b h = grind (arith, h)
+
+pub none_set : (words : List ℕ) (g : ℕ) → slice_get words (g / 64) ≡ None → IsSet words g → ⊥
+none_set words g none h = absurd (cc (none, h.1))
 
 -- what a slice of all of a vector writes back
 pub words_back : (new items : List ℕ) (n : ℕ) → length new ≡ length items → n ≡ length items → take n (new ++ drop (length new) items) ≡ new

@@ -1,20 +1,57 @@
--- The search for two parameterizations of one class above a type, in a world whose order may be broken.
-use Rattle.std.specs.Prelude.{◌≡◌, ℕ, ◌<◌, List, Some, slice_get, length, ◌⊎◌}
+-- The ways up from a class type: to a parameterization of one class, and to two that differ, in a world whose order may be broken.
+use Rattle.std.specs.Prelude.{◌≡◌, ℕ, ◌<◌, Bool, true, false, IsTrue, List, [], Some, slice_get, length, ◌⊎◌, ◌↔◌}
 use Rattle.class_world.specs.declared.world.World.{World}
 use Rattle.class_world.specs.declared.world.TypeInfo.{TypeInfo}
 use Rattle.class_world.specs.declared.world.JavaType.{JavaType}
 use Rattle.class_world.specs.declared.world.JavaType.TheVariants as ty
+use Rattle.class_world.specs.Types.{with_own}
 use Rattle.class_world.specs.Subtypes.{Subtype, IsSeenAs, IsDeclaredSuper, Parameterizes}
-use Rattle.class_world.specs.Sound.{IsClassOver, IsOfWorld}
-use Rattle.class_world.specs.Merged.{HasPlaces, IsCovered, IsListed}
+use Rattle.class_world.specs.Sound.{IsClassOver, IsOfWorld, IsSet}
+use Rattle.class_world.specs.Merged.{HasPlaces, IsCovered, IsListed, declared_supers}
 
--- a class type of the world
-abbrev pub IsClassType : World → JavaType → Type 0
-IsClassType w t = IsOfWorld w t × ((g : ℕ) × (xs : List JavaType) × (t ≡ ty.Class g xs))
+-- the class has parameters
+abbrev pub IsGeneric : World → ℕ → Type 0
+IsGeneric w c = (info : TypeInfo) × (slice_get w.types c ≡ Some info) × (0 < info.params)
+
+-- the bits of the generic classes
+abbrev pub MarkGeneric : World → List ℕ → Type 0
+MarkGeneric w words = (g : ℕ) → IsSet words g ↔ IsGeneric w g
+
+-- a parameterization of the class g is above s
+abbrev pub HasBase : World → JavaType → ℕ → Type 0
+HasBase w s g = (u : JavaType) × Parameterizes g u × Subtype w s u
+
+-- where a flag is not set, no parameterized type is above the class
+abbrev pub FlagBases : World → List Bool → Type 0
+FlagBases w flags = (length flags ≡ length w.types) × ((c : ℕ) (info : TypeInfo) (g : ℕ) → slice_get flags c ≡ Some false → slice_get w.types c ≡ Some info → HasBase w (with_own c info.params) g → ⊥)
+
+-- the flag of the type's class is set
+abbrev pub IsFlagged : List Bool → JavaType → Type 0
+IsFlagged flags d = (g : ℕ) × (xs : List JavaType) × (d ≡ ty.Class g xs) × (slice_get flags g ≡ Some true)
+
+-- at most one of the class's declared supertypes has its flag set
+abbrev pub HasOneWay : World → List Bool → ℕ → Type 0
+HasOneWay w flags c = (j k : ℕ) (d e : JavaType) → slice_get (declared_supers w c) j ≡ Some d → slice_get (declared_supers w c) k ≡ Some e → IsFlagged flags d → IsFlagged flags e → j ≡ k
+
+-- the class with these arguments is a raw type
+abbrev pub IsRaw : World → ℕ → List JavaType → Type 0
+IsRaw w c args = (args ≡ []) × IsGeneric w c
+
+-- the class with these arguments is a type of the world, and raw or not, as is said
+abbrev pub IsSaid : World → ℕ → Bool → List JavaType → Type 0
+IsSaid w c raw args = IsOfWorld w (ty.Class c args) × (IsTrue raw ↔ IsRaw w c args)
 
 -- what the supertype d that t's class declares is for t
 abbrev pub IsSuperBy : World → JavaType → JavaType → JavaType → Type 0
 IsSuperBy w t d u = (c : ℕ) × (xs : List JavaType) × (t ≡ ty.Class c xs) × (info : TypeInfo) × (slice_get w.types c ≡ Some info) × IsSeenAs info.params xs d u
+
+-- what the supertype d is for such types is below a parameterization of g
+abbrev pub LeadsTo : World → ℕ → Bool → JavaType → ℕ → Type 0
+LeadsTo w c raw d g = (args : List JavaType) (u : JavaType) → IsSaid w c raw args → IsSuperBy w (ty.Class c args) d u → HasBase w u g
+
+-- a class type of the world
+abbrev pub IsClassType : World → JavaType → Type 0
+IsClassType w t = IsOfWorld w t × ((g : ℕ) × (xs : List JavaType) × (t ≡ ty.Class g xs))
 
 -- u is a declared supertype of the class type t
 abbrev pub IsDeclaredAbove : World → JavaType → JavaType → Type 0

@@ -4,6 +4,7 @@ pub mod Sound
 pub mod Merged
 pub mod Climbs
 pub mod Graphs
+pub mod Seen
 pub mod Sequences
 pub mod Sorts
 pub mod Ordered

@@ -6,32 +6,15 @@ use Rattle.class_world.specs.declared.world.Above.{Above}
 use Rattle.class_world.specs.declared.world.JavaType.{JavaType}
 use Rattle.class_world.specs.declared.world.JavaType.TheVariants as ty
 use Rattle.class_world.specs.Subclasses.{IsDirectSuper}
-use Rattle.class_world.specs.Types.{substitute}
 use Rattle.class_world.specs.Subtypes.{Subtype, Parameterizes}
 use Rattle.class_world.specs.Sound.{IsSet, IsRow}
 
 abbrev pub IsListed : List JavaType → JavaType → Type 0
 IsListed ts t = (k : ℕ) × (slice_get ts k ≡ Some t)
 
--- each listed type parameterizes one of the first n classes
-abbrev pub AreBelow : List JavaType → ℕ → Type 0
-AreBelow ts n = (k : ℕ) (t : JavaType) → slice_get ts k ≡ Some t → (g : ℕ) × Parameterizes g t × (g < n)
-
 -- no two parameterizations of one class are listed
 abbrev pub AreSingle : List JavaType → Type 0
 AreSingle ts = (g : ℕ) (t u : JavaType) → Parameterizes g t → Parameterizes g u → IsListed ts t → IsListed ts u → t ≡ u
-
--- the listed types are those that were and t
-abbrev pub Gains : List JavaType → List JavaType → JavaType → Type 0
-Gains old new t = (u : JavaType) → IsListed new u ↔ (IsListed old u ⊎ (u ≡ t))
-
--- one of the listed types with the arguments put
-abbrev pub IsPutOf : List JavaType → List JavaType → JavaType → Type 0
-IsPutOf args ts u = (k : ℕ) × (b : JavaType) × (slice_get ts k ≡ Some b) × (substitute args b ≡ u)
-
--- the listed types are those that were and others with the arguments put
-abbrev pub GainsPut : List JavaType → List JavaType → List JavaType → List JavaType → Type 0
-GainsPut old new args more = (u : JavaType) → IsListed new u ↔ (IsListed old u ⊎ IsPutOf args more u)
 
 -- t is listed; or it has no arguments, and a type of its class is listed
 abbrev pub IsCovered : List JavaType → JavaType → Type 0
@@ -55,10 +38,6 @@ Takes old new t = ((new ≡ old) × IsCovered old t) ⊎ (new ≡ old ++ t ∷ [
 abbrev pub ClashOne : List JavaType → JavaType → Type 0
 ClashOne old t = (g : ℕ) × (u : JavaType) × Parameterizes g t × Parameterizes g u × IsListed old u × (u ≡ t → ⊥)
 
--- two parameterizations of one class are among the types that were and others with the arguments put
-abbrev pub Clash : List JavaType → List JavaType → List JavaType → Type 0
-Clash old args more = (g : ℕ) × (t : JavaType) × (u : JavaType) × Parameterizes g t × Parameterizes g u × (IsListed old t ⊎ IsPutOf args more t) × (IsListed old u ⊎ IsPutOf args more u) × (t ≡ u → ⊥)
-
 -- the bits are those that were and one more
 abbrev pub Sets : List ℕ → List ℕ → ℕ → Type 0
 Sets old new g = (h : ℕ) → IsSet new h ↔ (IsSet old h ⊎ (h ≡ g))
@@ -66,6 +45,10 @@ Sets old new g = (h : ℕ) → IsSet new h ↔ (IsSet old h ⊎ (h ≡ g))
 -- the bits are those of both
 abbrev pub SetsAll : List ℕ → List ℕ → List ℕ → Type 0
 SetsAll old new more = (h : ℕ) → IsSet new h ↔ (IsSet old h ⊎ IsSet more h)
+
+-- the bits are those that were and those of both others
+abbrev pub SetsBoth : List ℕ → List ℕ → List ℕ → List ℕ → Type 0
+SetsBoth old new more mask = (h : ℕ) → IsSet new h ↔ (IsSet old h ⊎ (IsSet more h × IsSet mask h))
 
 -- the number lies within the words
 abbrev pub AreWithin : List ℕ → ℕ → Type 0
@@ -82,10 +65,6 @@ HaveRows w rows ts = (k : ℕ) (d : JavaType) → slice_get ts k ≡ Some d → 
 -- the fact holds of one of the first i types
 abbrev pub AmongFirst : (JavaType → Type 0) → List JavaType → ℕ → Type 0
 AmongFirst P ts i = (k : ℕ) × (d : JavaType) × (k < i) × (slice_get ts k ≡ Some d) × P d
-
--- a parameterized type above s
-abbrev pub IsBase : World → JavaType → JavaType → Type 0
-IsBase w s u = ((g : ℕ) × Parameterizes g u) × Subtype w s u
 
 abbrev pub supers_in : Option TypeInfo → List JavaType
 supers_in None = []
@@ -104,13 +83,19 @@ abbrev pub IsAboveItself : World → ℕ → Type 0
 IsAboveItself w c = (g : ℕ) × (args : List JavaType) × IsDirectSuper w c (ty.Class g args) × Subtype w (ty.Class g []) (ty.Class c [])
 
 -- The search for a sequence: the classes seen that are not finished wait on the stack, each of which leads to those above it there; the finished ones are listed,
--- those of their declared supertypes first.
+-- each once, those of their declared supertypes first.
 pub record IsSearch (w : World) (seen finished : List Bool) (stack listed : List ℕ) : Type 0 where
   pub seen_size : length seen ≡ length w.types
   pub finished_size : length finished ≡ length w.types
   pub stacked : (i c : ℕ) → slice_get stack i ≡ Some c → c < length w.types
   pub waiting : (c : ℕ) → slice_get seen c ≡ Some true → slice_get finished c ≡ Some false → (i : ℕ) × (slice_get stack i ≡ Some c)
   pub chain : (i j a b : ℕ) → i ≤ j → slice_get stack i ≡ Some a → slice_get stack j ≡ Some b → Subtype w (ty.Class a []) (ty.Class b [])
+  pub begun : (c : ℕ) → slice_get finished c ≡ Some true → slice_get seen c ≡ Some true
+  pub noticed : (i c : ℕ) → slice_get stack i ≡ Some c → slice_get seen c ≡ Some true
+  pub pending : (i c : ℕ) → slice_get stack i ≡ Some c → slice_get finished c ≡ Some false
+  pub apart : (i j c : ℕ) → slice_get stack i ≡ Some c → slice_get stack j ≡ Some c → i ≡ j
   pub known : (i c : ℕ) → slice_get listed i ≡ Some c → c < length w.types
+  pub over : (i c : ℕ) → slice_get listed i ≡ Some c → slice_get finished c ≡ Some true
+  pub once : (i j c : ℕ) → slice_get listed i ≡ Some c → slice_get listed j ≡ Some c → i ≡ j
   pub done : (c : ℕ) → slice_get finished c ≡ Some true → (i : ℕ) × (slice_get listed i ≡ Some c)
   pub before : (i c g : ℕ) (args : List JavaType) → slice_get listed i ≡ Some c → IsDirectSuper w c (ty.Class g args) → (j : ℕ) × (j < i) × (slice_get listed j ≡ Some g)

@@ -7,7 +7,7 @@ use Rattle.class_world.specs.declared.world.Above.{Above}
 use Rattle.class_world.specs.declared.world.JavaType.{JavaType}
 use Rattle.class_world.specs.declared.world.JavaType.TheVariants as ty
 use Rattle.class_world.specs.Subclasses.{IsDirectSuper}
-use Rattle.class_world.specs.Types.{substitute, IsTypeOver, with_own}
+use Rattle.class_world.specs.Types.{IsTypeOver, with_own}
 use Rattle.class_world.specs.Subtypes.{Subtype, Parameterizes}
 
 -- a type of the world, whatever number of variables is in scope
@@ -21,23 +21,11 @@ IsKnown w c = (info : TypeInfo) × (slice_get w.types c ≡ Some info)
 abbrev pub IsSet : List ℕ → ℕ → Type 0
 IsSet words g = (word : ℕ) × (slice_get words (g / 64) ≡ Some word) × (bit_at word (g % 64) ≡ 1)
 
--- the list has exactly the parameterized types above s
-abbrev pub AreBases : World → JavaType → List JavaType → Type 0
-AreBases w s bases = (b : JavaType) → ((k : ℕ) × (slice_get bases k ≡ Some b)) ↔ (((g : ℕ) × Parameterizes g b) × Subtype w s b)
-
--- the listed types with the arguments put for their variables are the parameterized types above s
-abbrev pub ArePutBases : World → List JavaType → JavaType → List JavaType → Type 0
-ArePutBases w args s bases = (u : JavaType) → ((k : ℕ) × (b : JavaType) × (slice_get bases k ≡ Some b) × (substitute args b ≡ u)) ↔ (((g : ℕ) × Parameterizes g u) × Subtype w s u)
-
-abbrev pub AreClasses : List JavaType → Type 0
-AreClasses ts = (k : ℕ) (t : JavaType) → slice_get ts k ≡ Some t → (g : ℕ) × (args : List JavaType) × (t ≡ ty.Class g args)
-
--- The table's row of a class of n parameters: the classes whose types without arguments are above it, the parameterized types above it with its own variables, and
--- those above its raw type, where it has one.
+-- The table's row of a class of n parameters: the classes whose types without arguments are above it, and those of which a parameterization is above its raw type,
+-- where it has one.
 pub record IsRow (w : World) (c n : ℕ) (a : Above) : Type 0 where
   pub types : (g : ℕ) → IsSet a.types g ↔ Subtype w (with_own c n) (ty.Class g [])
-  pub bases : AreBases w (with_own c n) a.bases
-  pub raw_bases : 0 < n → AreBases w (ty.Class c []) a.raw_bases
+  pub raw_bases : 0 < n → (g : ℕ) → IsSet a.raw_bases g ↔ ((u : JavaType) × Parameterizes g u × Subtype w (ty.Class c []) u)
 
 -- A declared supertype in a class of n parameters: a class type over its variables, and not raw (8.1.4, 8.1.5).
 abbrev pub IsSuper : World → ℕ → JavaType → Type 0

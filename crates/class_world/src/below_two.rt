@@ -1,37 +1,122 @@
 //! Classes below two parameterizations of one class (JLS 3rd edition, 8.1.5), in a world whose order may be broken.
 
-ghost use Rattle.std.specs.Prelude.{◌≡◌, ℕ, ◌<◌, ◌^◌, ◌↔◌, Some, length, map, nat_lt, slice_get, IsTrue, IfOk};
+ghost use Rattle.std.specs.Prelude.{◌≡◌, ℕ, ◌<◌, ◌^◌, ◌⊎◌, Some, length, map, nat_lt, slice_get, IsTrue, IfOk, IfNone};
+ghost use Rattle.class_world.specs.Types.{variables};
 ghost use Rattle.class_world.specs.Sound.{HaveClassSupers};
 ghost use Rattle.class_world.specs.declared.world.TypeInfo.{TypeInfo};
 ghost use Rattle.class_world.specs.Merged.{HasPlaces};
 ghost use Rattle.class_world.specs.Graphs.{AreClassesOf, IsSuperGraph};
-ghost use Rattle.class_world.specs.Climbs.{Climbs, Collide, IsClassType, IsSuperBy};
-ghost use Rattle.class_world.specs.Ordered.{IsClassBelowTwo, IsFirstBelowTwo};
+ghost use Rattle.class_world.specs.Climbs.{Climbs, Collide, FlagBases, HasOneWay, IsClassType};
+ghost use Rattle.class_world.specs.Ordered.{IsClassBelowTwo, IsFirstBelowTwo, IsSingleClass};
 
-use crate::rows::own_variables;
-use crate::sequence::supers_of;
-use crate::subtypes::is_raw;
-use crate::table::{add, args_of, class_of, listed};
-use crate::types::{erase, substituted};
+use crate::sequence::{Sorted, sort};
+use crate::supers::{declared_super, supers_of};
+use crate::table::{add, class_of, is_marked, listed};
 use crate::world::{JavaType, World};
 use java_tree::{Items, NoMemory};
 use std::alloc::Global;
 use type_reach::{Graph, reaching};
 
-/// The first class, by number, that is below two parameterizations of one class. Takes time for the types and their declared supertypes, and for each class that is generic or below a generic one the time of going over the declared supertypes of what is above it.
+/// The first class, by number, that is below two parameterizations of one class. Takes time for the types and their declared supertypes; for each class with two of them that are generic or below a generic class also the time of going over the declared supertypes of what is above it; and where a class is above itself, or one is found, so for each class that is generic or below a generic one.
 pub fn first_below_two(alloc: Global, w: &World) -> Result<Option<u32>, NoMemory>
     requires supers { HaveClassSupers w.now }
     requires few { length w.now.types < 2 ^ 32 }
     ensures { IfOk result (λ o. IsFirstBelowTwo w.now o) }
 {
-    let count = w.types.len();
+    first_doubled(alloc, w)
+}
+
+/// The same, for callers that want to know more where there is none.
+pub(crate) fn first_doubled(alloc: Global, w: &World) -> Result<Option<u32>, NoMemory>
+    requires supers { HaveClassSupers w.now }
+    requires few { length w.now.types < 2 ^ 32 }
+    ensures first { IfOk result (λ o. IsFirstBelowTwo w.now o) }
+    ensures single { IfOk result (λ o. IfNone o ((c : ℕ) → IsSingleClass w.now c)) }
+{
+    let flags = base_flags(alloc, w)?;
+    if are_single(alloc, w, flags.as_slice())? {
+        Ok(None)
+    } else {
+        search(alloc, w, flags.as_slice())
+    }
+}
+
+/// For each class whether it is generic or below a generic one.
+fn base_flags(alloc: Global, w: &World) -> Result<Vec<bool>, NoMemory>
+    requires supers { HaveClassSupers w.now }
+    requires few { length w.now.types < 2 ^ 32 }
+    ensures { IfOk result (λ v. FlagBases w.now v.items) }
+{
     let graph = super_graph(alloc, w)?;
     let generic = generic_classes(alloc, w)?;
-    let below_generic = reaching(alloc, &graph, generic.as_slice())?;
+    let flags = reaching(alloc, &graph, generic.as_slice())?;
+    Ok(flags)
+}
+
+/// A quick test, right where it says yes: no class is above itself, and none that joins two ways up is below two parameterizations of one class. With one way up a class has no more than the class above.
+fn are_single(alloc: Global, w: &World, flags: &[bool]) -> Result<bool, NoMemory>
+    requires supers { HaveClassSupers w.now }
+    requires few { length w.now.types < 2 ^ 32 }
+    requires flags { FlagBases w.now flags.now }
+    ensures { IfOk result (λ r. IsTrue r → (c : ℕ) → IsSingleClass w.now c) }
+{
+    let listed = match sort(alloc, w)? {
+        Sorted::AboveItself(_) => return Ok(false),
+        Sorted::Sequence(listed) => listed,
+    };
+    let single = are_joins_single(alloc, w, flags, listed.as_slice())?;
+    Ok(single)
+}
+
+/// Whether none of the listed classes that join two ways up is below two parameterizations of one class.
+fn are_joins_single(
+    alloc: Global,
+    w: &World,
+    flags: &[bool],
+    listed: &[u32],
+) -> Result<bool, NoMemory>
+    requires supers { HaveClassSupers w.now }
+    ensures { IfOk result (λ r. IsTrue r → (i c : ℕ) → slice_get listed.now i ≡ Some c → IsSingleClass w.now c ⊎ HasOneWay w.now flags.now c) }
+{
+    let mut places = vec![in alloc; 0usize; w.types.len()]?;
+    let places = places.as_mut_slice();
+    for c in listed {
+        if joins(w, flags, *c) && is_below_two(alloc, w, places, *c)? {
+            return Ok(false);
+        }
+    }
+    Ok(true)
+}
+
+/// Whether the flags of more than one declared supertype's class are set.
+fn joins(w: &World, flags: &[bool], c: u32) -> bool
+    ensures { (IsTrue result → ⊥) → HasOneWay w.now flags.now c }
+{
+    let mut found = false;
+    for d in supers_of(w, c) {
+        if is_marked(flags, class_of(d)) {
+            if found {
+                return true;
+            }
+            found = true;
+        }
+    }
+    false
+}
+
+/// Searches above each class whose flag is set.
+fn search(alloc: Global, w: &World, flags: &[bool]) -> Result<Option<u32>, NoMemory>
+    requires supers { HaveClassSupers w.now }
+    requires few { length w.now.types < 2 ^ 32 }
+    requires flags { FlagBases w.now flags.now }
+    ensures first { IfOk result (λ o. IsFirstBelowTwo w.now o) }
+    ensures single { IfOk result (λ o. IfNone o ((c : ℕ) → IsSingleClass w.now c)) }
+{
+    let count = w.types.len();
     let mut places = vec![in alloc; 0usize; count]?;
     let places = places.as_mut_slice();
     for c in 0..count as u32 {
-        if below_generic[c as usize] && is_below_two(alloc, w, places, c)? {
+        if is_marked(flags, c) && is_below_two(alloc, w, places, c)? {
             return Ok(Some(c));
         }
     }
@@ -71,7 +156,8 @@ fn generic_classes(alloc: Global, w: &World) -> Result<Vec<bool>, NoMemory>
 fn is_below_two(alloc: Global, w: &World, places: &mut [usize], c: u32) -> Result<bool, NoMemory>
     requires supers { HaveClassSupers w.now }
     requires size { length places.old ≡ length w.now.types }
-    ensures { IfOk result (λ r. IsTrue r ↔ IsClassBelowTwo w.now c) }
+    ensures two { IfOk result (λ r. IsTrue r → IsClassBelowTwo w.now c) }
+    ensures single { IfOk result (λ r. (IsTrue r → ⊥) → IsSingleClass w.now c) }
 {
     let Some(info) = w.types.get(c as usize) else {
         return Ok(false);
@@ -113,19 +199,13 @@ fn add_supers(
     Ok(true)
 }
 
-/// What a supertype that the class of `t` declares is for `t`.
-fn declared_super(
-    alloc: Global,
-    w: &World,
-    t: &JavaType,
-    d: &JavaType,
-) -> Result<JavaType, NoMemory>
-    requires { IsClassType w.now t.now }
-    ensures { IfOk result (λ u. IsSuperBy w.now t.now d.now u) }
+/// The variables of a class of so many parameters.
+fn own_variables(alloc: Global, params: u32) -> Result<Items<JavaType>, NoMemory>
+    ensures { IfOk result (λ vs. vs ≡ variables 0 params) }
 {
-    if is_raw(w, class_of(t), args_of(t)) {
-        erase(alloc, d)
-    } else {
-        substituted(alloc, args_of(t), d)
+    let mut vs = Items::new(alloc);
+    for k in 0..params {
+        vs.push(JavaType::Var(k))?;
     }
+    Ok(vs)
 }

@@ -5,13 +5,16 @@ pub mod access;
 #[cfg(test)]
 mod access_tests;
 mod below_two;
+mod climb;
 pub mod laws;
 mod members;
 mod order;
 mod order_table;
 mod rows;
+mod seen;
 mod sequence;
 mod subtypes;
+mod supers;
 mod table;
 #[cfg(test)]
 mod tests;

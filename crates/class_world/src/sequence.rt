@@ -1,15 +1,17 @@
 //! A sequence of the classes in which those of the declared supertypes come first (JLS 3rd edition, 8.1.4).
 
 ghost use Rattle.std.specs.Prelude.{◌≡◌, ℕ, ◌<◌, ◌≤◌, ◌^◌, List, [], Some, true, false, length, slice_get, IsTrue, IfOk, IfSome, IfNone, ◌↔◌, ◌∷◌};
-ghost use Rattle.class_world.specs.Sound.{AreSupers, IsSound};
+ghost use Rattle.class_world.specs.Sound.{HaveClassSupers, IsSound};
 ghost use Rattle.class_world.specs.Subclasses.{IsDirectSuper};
 ghost use Rattle.class_world.specs.Merged.{FinishedBefore, IsAboveItself, IsSearch, declared_supers};
 ghost use Rattle.class_world.specs.Sequences.{IsSequence};
 ghost use Rattle.class_world.specs.Sorts.{IsSorted};
+ghost use Rattle.class_world.specs.declared.world.JavaType.{JavaType};
 ghost use Rattle.class_world.specs.declared.world.JavaType.TheVariants as ty;
 
-use crate::table::class_of;
-use crate::world::{JavaType, World};
+use crate::supers::supers_of;
+use crate::table::{class_of, is_marked};
+use crate::world::World;
 use java_tree::NoMemory;
 use std::alloc::Global;
 
@@ -43,7 +45,7 @@ pub fn supers_first(alloc: Global, w: &World) -> Result<Vec<u32>, NoMemory>
 
 /// Sorts the classes. Takes time for the types and their declared supertypes.
 pub(crate) fn sort(alloc: Global, w: &World) -> Result<Sorted, NoMemory>
-    requires supers { AreSupers w.now }
+    requires supers { HaveClassSupers w.now }
     requires few { length w.now.types < 2 ^ 32 }
     ensures { IfOk result (λ r. IsSorted w.now r) }
 {
@@ -72,7 +74,7 @@ fn finish(
     finished: &mut Vec<bool>,
     listed: &mut Vec<u32>,
 ) -> Result<Option<u32>, NoMemory>
-    requires supers { AreSupers w.now }
+    requires supers { HaveClassSupers w.now }
     requires search { IsSearch w.now seen.old.items finished.old.items (start ∷ []) listed.old.items }
     ensures search { IfOk result (λ o. IfNone o (IsSearch w.now seen.new.items finished.new.items [] listed.new.items)) }
     ensures kept { IfOk result (λ o. IfNone o ((c : ℕ) → slice_get seen.old.items c ≡ Some true → slice_get seen.new.items c ≡ Some true)) }
@@ -111,7 +113,7 @@ fn finish(
 
 /// The place and the class of the first declared supertype whose class is not finished.
 fn first_unfinished(w: &World, finished: &[bool], visit: Visit) -> Option<(usize, u32)>
-    requires supers { AreSupers w.now }
+    requires supers { HaveClassSupers w.now }
     requires size { length finished.now ≡ length w.now.types }
     requires passed { FinishedBefore finished.now (declared_supers w.now visit.class) visit.passed }
     ensures some { IfSome result (λ r. ((args : List JavaType) × IsDirectSuper w.now visit.class (ty.Class r.1 args)) × (slice_get finished.now r.1 ≡ Some false)) }
@@ -121,27 +123,9 @@ fn first_unfinished(w: &World, finished: &[bool], visit: Visit) -> Option<(usize
     let supers = supers_of(w, visit.class);
     for at in visit.passed..supers.len() {
         let g = class_of(&supers[at]);
-        if !is_finished(finished, g) {
+        if !is_marked(finished, g) {
             return Some((at, g));
         }
     }
     None
-}
-
-pub(crate) fn supers_of(w: &World, c: u32) -> &[JavaType]
-    ensures { result.now ≡ declared_supers w.now c }
-{
-    match w.types.get(c as usize) {
-        Some(info) => info.supers.as_slice(),
-        None => &[],
-    }
-}
-
-fn is_finished(finished: &[bool], c: u32) -> bool
-    ensures { IsTrue result ↔ (slice_get finished.now c ≡ Some true) }
-{
-    match finished.get(c as usize) {
-        Some(done) => *done,
-        None => false,
-    }
 }

@@ -1,19 +1,22 @@
 //! The order of all types (JLS 3rd edition, 4.10 and 5.2), by the table of what is above each class. None of these calls but `super_as` takes memory.
 
-ghost use Rattle.std.specs.Prelude.{◌≡◌, ℕ, ◌<◌, List, [], Some, ◌↔◌, IsTrue, IfOk, IfSome, IfNone, slice_get};
-ghost use Rattle.class_world.specs.Types.{IsReference, IsTypeOver, object_type, substitute};
+ghost use Rattle.std.specs.Prelude.{◌≡◌, ℕ, List, [], ◌↔◌, IsTrue, IfOk, IfSome, IfNone};
+ghost use Rattle.class_world.specs.Types.{IsReference, object_type};
 ghost use Rattle.class_world.specs.Subtypes.{Fits, IsSuperAs, IsUnchecked, Parameterizes, Subtype};
-ghost use Rattle.class_world.specs.Sound.{AreClasses, ArePutBases, IsKnown, IsOfWorld, IsSet, IsSound};
+ghost use Rattle.class_world.specs.Sound.{IsKnown, IsOfWorld, IsSound};
 ghost use Rattle.class_world.specs.declared.world.JavaType.TheVariants as ty;
-ghost use Rattle.class_world.specs.declared.world.TypeInfo.{TypeInfo};
 
-use crate::types::{is_put, is_same, substituted};
+use crate::climb::{base_above, has_base, is_climbed};
+use crate::seen::Seen;
+use crate::supers::is_raw;
+use crate::table::is_set;
+use crate::types::is_same;
 use crate::world::{JavaType, World};
 use java_tree::tree::Primitive;
 use java_tree::{Items, NoMemory};
 use std::alloc::Global;
 
-/// Whether `s` is a subtype of `t` (JLS 4.10). The time is that of comparing `t` with what is parameterized above `s`'s class.
+/// Whether `s` is a subtype of `t` (JLS 4.10). Where `t` has arguments it goes up from `s`'s class to `t`'s, one supertype at a time, past the declared supertypes of each class on the way.
 pub fn is_sub(w: &World, s: &JavaType, t: &JavaType) -> bool
     requires sound { IsSound w.now }
     requires types { IsOfWorld w.now s.now × IsOfWorld w.now t.now }
@@ -93,7 +96,7 @@ fn is_class_sub(w: &World, c: u32, args: &[JavaType], t: &JavaType) -> bool
             if others.is_empty() {
                 is_class_above(w, c, *g)
             } else {
-                is_base(w, c, args, t)
+                has_base(w, c, is_raw(w, c, args), *g) && is_climbed(w, c, args, &Seen::Itself, t)
             }
         }
         _ => false,
@@ -109,86 +112,6 @@ fn is_class_above(w: &World, c: u32, g: u32) -> bool
     match w.above.get(c as usize) {
         Some(row) => is_set(row.types.as_slice(), g),
         None => false,
-    }
-}
-
-/// Whether the bit `g` is set, of 64 to a word.
-fn is_set(words: &[u64], g: u32) -> bool
-    ensures { IsTrue result ↔ IsSet words.now g }
-{
-    match words.get(g as usize / 64) {
-        Some(word) => (*word >> (g % 64)) & 1 == 1,
-        None => false,
-    }
-}
-
-/// Whether the parameterized type `t` is above the type of the class `c` with these arguments.
-fn is_base(w: &World, c: u32, args: &[JavaType], t: &JavaType) -> bool
-    requires sound { IsSound w.now }
-    requires class { IsOfWorld w.now (ty.Class c args.now) }
-    requires parameterized { (g : ℕ) × Parameterizes g t.now }
-    ensures { IsTrue result ↔ Subtype w.now (ty.Class c args.now) t.now }
-{
-    let bases = bases_of(w, c, args);
-    for base in bases {
-        if is_put(args, base, t) {
-            return true;
-        }
-    }
-    false
-}
-
-/// The parameterized types above the type of the class `c` with these arguments, each with variables in their place.
-fn bases_of<'a>(w: &'a World, c: u32, args: &[JavaType]) -> &'a [JavaType]
-    requires sound { IsSound w.now }
-    requires class { IsOfWorld w.now (ty.Class c args.now) }
-    ensures bases { ArePutBases w.now args.now (ty.Class c args.now) result.now }
-    ensures classes { AreClasses result.now }
-{
-    match w.above.get(c as usize) {
-        Some(row) => {
-            if is_raw(w, c, args) {
-                row.raw_bases.as_slice()
-            } else {
-                row.bases.as_slice()
-            }
-        }
-        None => &[],
-    }
-}
-
-/// Whether the type of the class `c` with these arguments is raw.
-pub(crate) fn is_raw(w: &World, c: u32, args: &[JavaType]) -> bool
-    ensures { (info : TypeInfo) → slice_get w.now.types c ≡ Some info → IsTrue result ↔ ((args.now ≡ []) × (0 < info.params)) }
-{
-    match w.types.get(c as usize) {
-        Some(info) => args.is_empty() && 0 < info.params,
-        None => false,
-    }
-}
-
-/// The parameterization of the class `g` above the type of the class `c` with these arguments, with variables in their place.
-fn base_of<'a>(w: &'a World, c: u32, args: &[JavaType], g: u32) -> Option<&'a JavaType>
-    requires sound { IsSound w.now }
-    requires class { IsOfWorld w.now (ty.Class c args.now) }
-    ensures some { IfSome result (λ b. Parameterizes g (substitute args.now b.now) × Subtype w.now (ty.Class c args.now) (substitute args.now b.now)) }
-    ensures none { IfNone result ((u : JavaType) → Parameterizes g u → Subtype w.now (ty.Class c args.now) u → ⊥) }
-{
-    let bases = bases_of(w, c, args);
-    for base in bases {
-        if is_of_class(base, g) {
-            return Some(base);
-        }
-    }
-    None
-}
-
-pub(crate) fn is_of_class(t: &JavaType, g: u32) -> bool
-    ensures { IsTrue result ↔ ((args : List JavaType) × (t.now ≡ ty.Class g args)) }
-{
-    match t {
-        JavaType::Class(c, _) => *c == g,
-        _ => false,
     }
 }
 
@@ -223,14 +146,14 @@ fn is_raw_alone(w: &World, s: &JavaType, g: u32) -> bool
         JavaType::Prim(_) => false,
         JavaType::Null => false,
         JavaType::Class(c, args) => {
-            is_class_above(w, *c, g) && base_of(w, *c, args.as_slice(), g).is_none()
+            is_class_above(w, *c, g) && !has_base(w, *c, is_raw(w, *c, args.as_slice()), g)
         }
         JavaType::Var(_) => g == 0,
         JavaType::Array(_) => g == 0,
     }
 }
 
-/// The supertype of `t` whose class is `g`: the parameterization where there is one, else the type without arguments.
+/// The supertype of `t` whose class is `g`: the parameterization where there is one, else the type without arguments. Goes up from `t`'s class to `g`, with a copy of the type a step.
 pub fn super_as(
     alloc: Global,
     w: &World,
@@ -245,10 +168,13 @@ pub fn super_as(
     match t {
         JavaType::Prim(_) => Ok(None),
         JavaType::Null => Ok(None),
-        JavaType::Class(c, args) => match base_of(w, *c, args.as_slice(), g) {
-            Some(base) => Ok(Some(substituted(alloc, args.as_slice(), base)?)),
-            None => Ok(bare_type(alloc, g, is_class_above(w, *c, g))),
-        },
+        JavaType::Class(c, args) => {
+            if has_base(w, *c, is_raw(w, *c, args.as_slice()), g) {
+                Ok(Some(base_above(alloc, w, t, g)?))
+            } else {
+                Ok(bare_type(alloc, g, is_class_above(w, *c, g)))
+            }
+        }
         JavaType::Var(_) => Ok(bare_type(alloc, g, g == 0)),
         JavaType::Array(_) => Ok(bare_type(alloc, g, g == 0)),
     }

@@ -1,11 +1,11 @@
 //! The table of what is above each class.
 
-ghost use Rattle.std.specs.Prelude.{◌≡◌, ℕ, ◌<◌, ◌/◌, List, [], ◌∷◌, length, IsTrue, IfOk, IfSome, IfNone};
-ghost use Rattle.class_world.specs.Merged.{AreBelow, AreWithin, Clash, ClashOne, GainsPut, HasPlaces, IsPlaced, Sets, SetsAll, Takes};
+ghost use Rattle.std.specs.Prelude.{◌≡◌, ℕ, ◌<◌, ◌/◌, List, [], ◌∷◌, ◌↔◌, Some, true, length, slice_get, IsTrue, IfOk, IfSome, IfNone};
+ghost use Rattle.class_world.specs.Sound.{IsSet};
+ghost use Rattle.class_world.specs.Merged.{AreWithin, ClashOne, HasPlaces, IsPlaced, Sets, SetsAll, SetsBoth, Takes};
 ghost use Rattle.class_world.specs.declared.world.JavaType.TheVariants as ty;
 
-use crate::subtypes::is_of_class;
-use crate::types::{is_same, substituted};
+use crate::types::is_same;
 use crate::world::JavaType;
 use java_tree::NoMemory;
 use std::alloc::Global;
@@ -30,6 +30,39 @@ pub(crate) fn set_all(words: &mut [u64], more: &[u64])
         if i < words.len() {
             words[i] |= more[i];
         }
+    }
+}
+
+/// Sets the bits that are set in both of two others.
+pub(crate) fn set_both(words: &mut [u64], more: &[u64], mask: &[u64])
+    requires { AreWithin more.now (length words.old) }
+    ensures sets { SetsBoth words.old words.new more.now mask.now }
+    ensures len { length words.new ≡ length words.old }
+{
+    for i in 0..more.len() {
+        if i < words.len() && i < mask.len() {
+            words[i] |= more[i] & mask[i];
+        }
+    }
+}
+
+/// Whether the bit `g` is set, of 64 to a word.
+pub(crate) fn is_set(words: &[u64], g: u32) -> bool
+    ensures { IsTrue result ↔ IsSet words.now g }
+{
+    match words.get(g as usize / 64) {
+        Some(word) => (*word >> (g % 64)) & 1 == 1,
+        None => false,
+    }
+}
+
+/// Whether the flag of a class is set.
+pub(crate) fn is_marked(marks: &[bool], c: u32) -> bool
+    ensures { IsTrue result ↔ (slice_get marks.now c ≡ Some true) }
+{
+    match marks.get(c as usize) {
+        Some(mark) => *mark,
+        None => false,
     }
 }
 
@@ -67,6 +100,15 @@ pub(crate) fn listed(
     Ok(vec![in alloc; t]?)
 }
 
+fn is_of_class(t: &JavaType, g: u32) -> bool
+    ensures { IsTrue result ↔ ((args : List JavaType) × (t.now ≡ ty.Class g args)) }
+{
+    match t {
+        JavaType::Class(c, _) => *c == g,
+        _ => false,
+    }
+}
+
 /// The listed type at the place of the class `g`.
 fn placed<'a>(types: &'a [JavaType], places: &[usize], g: u32) -> Option<&'a JavaType>
     ensures some { IfSome result (λ t. IsPlaced types.now places.now g t.now) }
@@ -102,28 +144,5 @@ pub(crate) fn add(
     }
     places[g as usize] = types.len();
     types.push(t)?;
-    Ok(true)
-}
-
-/// Adds parameterized types with the arguments put, those that aren't there. `false` where two parameterizations of one class come together.
-pub(crate) fn add_all(
-    alloc: Global,
-    bases: &mut Vec<JavaType>,
-    places: &mut [usize],
-    args: &[JavaType],
-    more: &[JavaType],
-) -> Result<bool, NoMemory>
-    requires placed { HasPlaces bases.old.items places.old }
-    requires more { AreBelow more.now (length places.old) }
-    ensures placed { IfOk result (λ r. IsTrue r → HasPlaces bases.new.items places.new) }
-    ensures gains { IfOk result (λ r. IsTrue r → GainsPut bases.old.items bases.new.items args.now more.now) }
-    ensures clash { IfOk result (λ r. (IsTrue r → ⊥) → Clash bases.old.items args.now more.now) }
-{
-    for b in more {
-        let t = substituted(alloc, args, b)?;
-        if !add(bases, places, t)? {
-            return Ok(false);
-        }
-    }
     Ok(true)
 }

@@ -12,7 +12,7 @@ ghost use Rattle.class_world.specs.declared.world.JavaType.TheVariants as ty;
 use crate::{
     JavaType, MethodInfo, MethodTable, Ordered, TypeInfo, World, erase, find_method,
     first_below_two, fits, is_below, is_same, is_sub, is_sub_class, member_names, super_as,
-    superclass, with_order,
+    superclass, supers_first, with_order,
 };
 use java_tree::tree::{Name, Primitive};
 use java_tree::{Boxed, Items, NoMemory};
@@ -268,10 +268,10 @@ fn ordered(alloc: Global, types: Vec<TypeInfo>) -> Result<Ordered, Fail>
     Ok(with_order(alloc, w)?)
 }
 
-fn library(alloc: Global) -> Result<World, Fail>
+fn sound(alloc: Global, classes: &[(u32, &[Step])]) -> Result<World, Fail>
     ensures { IfOk result (λ w. IsSound w) }
 {
-    match ordered(alloc, declared(alloc, LIBRARY.as_slice())?)? {
+    match ordered(alloc, declared(alloc, classes)?)? {
         Ordered::Sound(w) => Ok(w),
         _ => Err("no order".into()),
     }
@@ -642,7 +642,7 @@ fn are_supertypes(
 #[test]
 fn types_are_ordered_as_javac_has_them(rt: HostRuntime) -> Result<(), Fail> {
     let alloc = rt.alloc();
-    let w = library(alloc)?;
+    let w = sound(alloc, LIBRARY.as_slice())?;
     let ts = built(alloc, SAMPLES)?;
     assert_eq!(rt; ts.len(), 41);
     assert_eq!(rt; QUESTIONS.len(), 58);
@@ -653,12 +653,168 @@ fn types_are_ordered_as_javac_has_them(rt: HostRuntime) -> Result<(), Fail> {
 #[test]
 fn supertypes_have_their_arguments(rt: HostRuntime) -> Result<(), Fail> {
     let alloc = rt.alloc();
-    let w = library(alloc)?;
+    let w = sound(alloc, LIBRARY.as_slice())?;
     let ts = built(alloc, SAMPLES)?;
     assert!(rt; are_supertypes(alloc, &w, ts.as_slice(), SUPERTYPES)?);
     assert!(rt; supertype(alloc, &w, ts.get(1).ok_or("no such type")?, NAMES)?.is_none());
     Ok(())
 }
+
+// the classes of the third world
+const TWO: u32 = 2;
+
+const TURNED: u32 = 3;
+
+const HALF: u32 = 4;
+
+const FULL: u32 = 5;
+
+const BELOW_FULL: u32 = 6;
+
+const RAW_TWICE: u32 = 7;
+
+const STILL_HALF: u32 = 8;
+
+const JOINED: u32 = 9;
+
+/// Object, `S`, `Two<X, Y>`, `Turned<X, Y> extends Two<Y, X>`, `Half<T> extends Turned<T, S>`, `Full extends Half<Object>`, `BelowFull<T> extends Full`, `RawTwice<T> extends BelowFull<T>`, `StillHalf<T> extends Half<T>` and `Joined<T> extends StillHalf<T> implements Two<S, T>`.
+const LADDER: &[(u32, &[Step])] = &[
+    (0, &[]),
+    (0, &[]),
+    (2, &[]),
+    (2, &[Step::Var(1), Step::Var(0), Step::Two(TWO)]),
+    (1, &[Step::Var(0), Step::Bare(1), Step::Two(TURNED)]),
+    (0, &[Step::Bare(0), Step::One(HALF)]),
+    (1, &[Step::Bare(FULL)]),
+    (1, &[Step::Var(0), Step::One(BELOW_FULL)]),
+    (1, &[Step::Var(0), Step::One(HALF)]),
+    (
+        1,
+        &[
+            Step::Var(0),
+            Step::One(STILL_HALF),
+            Step::Bare(1),
+            Step::Var(0),
+            Step::Two(TWO),
+        ],
+    ),
+];
+
+/// The types on the ladder that the questions name by their places.
+const RUNGS: &[Step] = &[
+    Step::Bare(0),
+    Step::Bare(1),
+    Step::Bare(0),
+    Step::One(HALF),
+    Step::Bare(1),
+    Step::Bare(0),
+    Step::Two(TWO),
+    Step::Bare(0),
+    Step::Bare(1),
+    Step::Two(TWO),
+    Step::Bare(0),
+    Step::Bare(1),
+    Step::Two(TURNED),
+    Step::Bare(1),
+    Step::Bare(0),
+    Step::Two(TURNED),
+    Step::Bare(HALF),
+    Step::Bare(FULL),
+    Step::Bare(1),
+    Step::One(BELOW_FULL),
+    Step::Bare(BELOW_FULL),
+    Step::Bare(RAW_TWICE),
+    Step::Bare(1),
+    Step::One(RAW_TWICE),
+    Step::Bare(1),
+    Step::One(HALF),
+    Step::Bare(1),
+    Step::One(JOINED),
+    Step::Bare(1),
+    Step::Bare(1),
+    Step::Two(TWO),
+    Step::Bare(0),
+    Step::One(JOINED),
+    Step::Bare(JOINED),
+    Step::Bare(TWO),
+    Step::Bare(1),
+    Step::Bare(1),
+    Step::Two(TURNED),
+];
+
+/// Two types on the ladder, whether the first is a subtype of the second, and whether it fits it, by JLS 4.8, 4.10 and 5.2: above a raw type of a generic class is what is above the erasures of its declared supertypes, and the erasure of `Full` is `Full` with all that is above it.
+const CLIMBS: &[(usize, usize, bool, bool)] = &[
+    (2, 3, true, true),
+    (2, 4, false, false),
+    (2, 5, true, true),
+    (2, 6, false, false),
+    (7, 3, false, true),
+    (7, 5, false, true),
+    (7, 18, true, true),
+    (8, 3, true, true),
+    (8, 2, true, true),
+    (8, 13, false, false),
+    (9, 3, true, true),
+    (9, 4, false, false),
+    (10, 3, true, true),
+    (10, 2, true, true),
+    (11, 3, true, true),
+    (11, 4, false, false),
+    (11, 9, false, true),
+    (11, 2, true, true),
+    (11, 13, false, false),
+    (12, 2, true, true),
+    (12, 13, false, false),
+    (14, 15, true, true),
+    (14, 3, false, false),
+    (16, 3, true, true),
+    (16, 15, false, false),
+    (17, 3, false, true),
+    (17, 18, true, true),
+    (14, 19, true, true),
+];
+
+/// Types on the ladder, classes and the types that are their supertypes of these classes.
+const STEPS_UP: &[(usize, u32, usize)] = &[
+    (2, TWO, 3),
+    (2, TURNED, 5),
+    (7, TWO, 18),
+    (10, HALF, 2),
+    (11, TWO, 3),
+    (11, BELOW_FULL, 10),
+    (12, HALF, 2),
+    (14, TURNED, 19),
+    (14, TWO, 15),
+    (9, BELOW_FULL, 9),
+];
+
+#[test]
+fn arguments_are_put_step_by_step(rt: HostRuntime) -> Result<(), Fail> {
+    let alloc = rt.alloc();
+    let w = sound(alloc, LADDER)?;
+    let ts = built(alloc, RUNGS)?;
+    assert_eq!(rt; ts.len(), 20);
+    assert_eq!(rt; wrong_question(&w, ts.as_slice(), CLIMBS), None);
+    assert!(rt; are_supertypes(alloc, &w, ts.as_slice(), STEPS_UP)?);
+    Ok(())
+}
+
+#[test]
+fn supertypes_come_first(rt: HostRuntime) -> Result<(), Fail> {
+    let alloc = rt.alloc();
+    let w = sound(alloc, LATER_ABOVE)?;
+    let listed = supers_first(alloc, &w)?;
+    assert_eq!(rt; listed.as_slice(), [0, 3, 2, 1].as_slice());
+    Ok(())
+}
+
+/// Object, `C extends B`, `B extends A` and `A`.
+const LATER_ABOVE: &[(u32, &[Step])] = &[
+    (0, &[]),
+    (0, &[Step::Bare(2)]),
+    (0, &[Step::Bare(3)]),
+    (0, &[Step::Bare(0)]),
+];
 
 #[test]
 fn erasure_drops_the_arguments(rt: HostRuntime) -> Result<(), Fail> {
@@ -701,6 +857,8 @@ const BROKEN: &[(&[(u32, &[Step])], Option<u32>)] = &[
     (RAW, None),
     (IN_A_CIRCLE, None),
     (FIRST_OF_TWO, Some(2)),
+    (BELOW_THE_FIRST, Some(2)),
+    (MADE_ONE, Some(4)),
 ];
 
 /// Object, `I<T>`, `J<T> extends I<T>`, `K<T> extends I<T>` and `C extends J<Object>, K<Object>`.
@@ -765,6 +923,26 @@ const FIRST_OF_TWO: &[(u32, &[Step])] = &[
         &[Step::Bare(0), Step::One(1), Step::Bare(2), Step::One(1)],
     ),
     (2, &[Step::Var(1), Step::Var(0), Step::Two(3)]),
+];
+
+/// Object, `I<T>`, `B extends A` and `A extends I<Object>, I<A>`.
+const BELOW_THE_FIRST: &[(u32, &[Step])] = &[
+    (0, &[]),
+    (1, &[]),
+    (0, &[Step::Bare(3)]),
+    (
+        0,
+        &[Step::Bare(0), Step::One(1), Step::Bare(3), Step::One(1)],
+    ),
+];
+
+/// Object, `S`, `I<T>`, `Q extends P<S, S>`, which is below `I<S>` alone, and `P<X, Y> extends I<X>, I<Y>`.
+const MADE_ONE: &[(u32, &[Step])] = &[
+    (0, &[]),
+    (0, &[]),
+    (1, &[]),
+    (0, &[Step::Bare(1), Step::Bare(1), Step::Two(4)]),
+    (2, &[Step::Var(0), Step::One(2), Step::Var(1), Step::One(2)]),
 ];
 
 fn first_of(alloc: Global, classes: &[(u32, &[Step])]) -> Result<Option<u32>, Fail> {

@@ -1,4 +1,4 @@
-use Rattle.std.proofs.Common.{◌≡◌, ◌≤◌, ◌∙◌, [], ◌∷◌, length, refl, sym, ap, arith}
+use Rattle.std.proofs.Common.{◌≡◌, ◌≤◌, ◌∙◌, [], ◌∷◌, length, sym, ap, arith}
 use Rattle.std.specs.Option.{option_copied}
 use Rattle.class_world.specs.declared.world.TypeInfo.{TypeInfo}
 use Rattle.class_world.specs.declared.world.JavaType.TheVariants as ty
@@ -22,18 +22,15 @@ add_supers-requires-clause-class c =
     let type = by.climb_type c.args.w.now c.requires.supers info.params (with_own c.args.c info.params) c.loop-next.found.items c.loop-next.places c.loop-next.next climb there.0 there.1 in
     (there.0, there.1, ((info.params, type.0), type.1))
 
-pub returns-then-not-branch : goal.returns-then-not-branch
-returns-then-not-branch c = (
-  λ yes.
-      let info = c.in-Some.info.now in
-      let at = sym c.get.ensures.value ∙ ap option_copied c.in-Some.is in
-      let climb = c.loop-next.invariant info at in
-      let there = there_is c.loop-next.found.items c.loop-next.next (omega (arith, c.loop-next-test.true, c.len.ensures, c.loop-next.found.ok.0)) in
-      let two = by.climb_collides c.args.w.now c.requires.supers info.params (with_own c.args.c info.params) c.loop-next.found.items c.loop-next.places c.loop-next.next climb there.0 there.1
-      (c.in_ok-add_supers.ensures.collide (λ h. absurd (cc (h, c.if-not-branch.true))) there.0 there.1) in
-      (info, at, two.0, two.1),
-  λ h. refl,
-)
+pub returns-then-not-branch-clause-two : goal.returns-then-not-branch-clause-two
+returns-then-not-branch-clause-two c = λ h.
+    let info = c.in-Some.info.now in
+    let at = sym c.get.ensures.value ∙ ap option_copied c.in-Some.is in
+    let climb = c.loop-next.invariant info at in
+    let there = there_is c.loop-next.found.items c.loop-next.next (omega (arith, c.loop-next-test.true, c.len.ensures, c.loop-next.found.ok.0)) in
+    let two = by.climb_collides c.args.w.now c.requires.supers info.params (with_own c.args.c info.params) c.loop-next.found.items c.loop-next.places c.loop-next.next climb there.0 there.1
+    (c.in_ok-add_supers.ensures.collide (λ h. absurd (cc (h, c.if-not-branch.true))) there.0 there.1) in
+    (info, at, two.0, two.1)
 
 pub loop-next-smaller : goal.loop-next-smaller
 loop-next-smaller c =
@@ -50,10 +47,7 @@ loop-next-preserved c = λ info at.
     c.add_supers.new.places there.0 there.1 (c.add_supers.auto.places ∙ c.loop-next.auto.places ∙ c.listed.auto.places ∙ c.requires.size) (c.in_ok-add_supers.ensures.placed c.if-not-branch.false)
     (c.in_ok-add_supers.ensures.climbs c.if-not-branch.false there.0 there.1)
 
-pub returns : goal.returns
-returns c = (
-  λ h. absurd (cc h),
-  λ k.
-      let le : length c.loop-next.found.items ≤ c.loop-next.next = omega (arith, c.loop-next-test.false, c.len.ensures, c.loop-next.found.ok.0) in
-      absurd (by.climb_ends c.args.w.now c.requires.supers k.0.params (with_own c.args.c k.0.params) c.loop-next.found.items c.loop-next.places c.loop-next.next (c.loop-next.invariant k.0 k.1) le k.2 k.3),
-)
+pub returns-clause-single : goal.returns-clause-single
+returns-clause-single c = λ h info at.
+    let le : length c.loop-next.found.items ≤ c.loop-next.next = omega (arith, c.loop-next-test.false, c.len.ensures, c.loop-next.found.ok.0) in
+    by.climb_ends c.args.w.now c.requires.supers info.params c.args.c c.loop-next.found.items c.loop-next.places c.loop-next.next (c.loop-next.invariant info at) le

@@ -1,5 +1,6 @@
-use Rattle.std.proofs.Common.{arith}
+use Rattle.std.proofs.Common.{arith, subst, sym}
 use Rattle.std.proofs.lemmas.Option.{slice_get-get_or, slice_get_within}
+use Rattle.class_world.specs.Climbs.{MarkGeneric}
 use Rattle.class_world.proofs.Transports.{fill_next}
 use Rattle.class_world.proofs.order_table.fill_rows.Goals as goal
 
@@ -7,10 +8,13 @@ pub add_row-requires-clause-above : goal.add_row-requires-clause-above
 add_row-requires-clause-above c = λ g args super.
     let there = slice_get-get_or c.args.listed.now c.loop-c.c-index 0 c.loop-c-test.true in
     let under = c.requires.sequence.before c.loop-c.c-index _ g args there super in
-    (c.loop-c.invariant.filled under.0 g under.1 under.2).0
+    c.loop-c.invariant.filled under.0 g under.1 under.2
 
-pub returns-then-not-branch : goal.returns-then-not-branch
-returns-then-not-branch c = c.in_ok-add_row.ensures.none (λ h. absurd (cc (h, c.if-not-branch.true)))
+pub add_row-requires-clause-generic : goal.add_row-requires-clause-generic
+add_row-requires-clause-generic c = subst (MarkGeneric c.args.w.now) (sym c.as_slice.ensures.value) c.in_ok-generic.ensures
+
+pub add_row-requires-clause-within : goal.add_row-requires-clause-within
+add_row-requires-clause-within c = c.requires.sequence.known c.loop-c.c-index _ (slice_get-get_or c.args.listed.now c.loop-c.c-index 0 c.loop-c-test.true)
 
 pub loop-c-preserved : goal.loop-c-preserved
 loop-c-preserved c =
@@ -18,14 +22,11 @@ loop-c-preserved c =
     record {
       len = c.in_ok-add_row.ensures.len;
       filled = fill_next c.args.w.now c.args.listed.now c.loop-c.rows.items c.add_row.new.rows.items c.loop-c.c-index _ c.loop-c.invariant.filled c.in_ok-add_row.ensures.kept there
-          (c.in_ok-add_row.ensures.row c.if-not-branch.false);
+          c.in_ok-add_row.ensures.row;
     }
 
 pub returns : goal.returns
-returns c = (
-  c.loop-c.invariant.len,
-  λ k lt.
-      let at = c.requires.sequence.all k lt in
-      let within = slice_get_within c.args.listed.now at.0 k at.1 in
-      c.loop-c.invariant.filled at.0 k (omega (arith, within)) at.1,
-)
+returns c = λ k info known.
+    let at = c.requires.sequence.all k (slice_get_within c.args.w.now.types k info known) in
+    let within = slice_get_within c.args.listed.now at.0 k at.1 in
+    c.loop-c.invariant.filled at.0 k (omega (arith, within)) at.1 info known

@@ -70,12 +70,15 @@ loop-top-preserved c =
     let finished = c.loop-top.finished.items in
     let again : Visit = record { class = c.in-Some.top.class; passed = c.in-Some-first_unfinished.place } in
     let next : Visit = record { class = g; passed = 0 } in
+    let lt = by.super_within w c.requires.supers c.in-Some.top.class g found.0.0 found.0.1 in
+    let fresh : slice_get c.loop-top.seen.items g ≡ Some false =
+    slice_get_read c.loop-top.seen.items (length c.loop-top.seen.items) g c.index.result.now refl (omega (arith, lt, c.loop-top.invariant.search.seen_size)) c.index.ensures ∙ ap (λ b. Some b) c.if-index.false in
     let is_rest = by.classes_snoc c.loop-top.stack.items rest c.in-Some.top c.in-Some.ensures.items in
     let is_again = by.classes_snoc c.push-in-Some-first_unfinished.new.self.items rest again c.in_ok-push-in-Some-first_unfinished.ensures.items in
     let is_longer = by.classes_snoc c.push-in-Some-first_unfinished-2.new.self.items c.push-in-Some-first_unfinished.new.self.items next c.in_ok-push-in-Some-first_unfinished-2.ensures.items in
     record {
       search = by.search_goes_up w c.requires.supers c.loop-top.seen.items _ finished (by.classes c.loop-top.stack.items) (by.classes rest)
-          (by.classes c.push-in-Some-first_unfinished-2.new.self.items) c.loop-top.listed.items c.in-Some.top.class g found.0.0 c.loop-top.invariant.search is_rest refl
+          (by.classes c.push-in-Some-first_unfinished-2.new.self.items) c.loop-top.listed.items c.in-Some.top.class g found.0.0 c.loop-top.invariant.search is_rest fresh refl
           (is_longer ∙ ap (λ xs. xs ++ g ∷ []) (is_again ∙ sym is_rest)) found.0.1;
       passed =
           let below = by.passed_below w finished finished c.loop-top.stack.items rest c.in-Some.top c.loop-top.invariant.passed c.in-Some.ensures.items (λ g h. h) in

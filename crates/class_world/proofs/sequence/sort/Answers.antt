@@ -11,7 +11,9 @@ use Rattle.class_world.proofs.sequence.sort.Goals.{then-not-index+in_ok-c+in-Non
 pub finish-requires-clause-search : goal.finish-requires-clause-search
 finish-requires-clause-search c =
     by.search_enters c.args.w.now c.requires.supers c.loop-start.seen.items _ c.loop-start.finished.items c.loop-start.listed.items c.loop-start.start c.loop-start.invariant.search
-    (omega (arith, c.loop-start-test.true, c.len-count.ensures)) refl
+    (omega (arith, c.loop-start-test.true, c.len-count.ensures))
+    (slice_get_read c.loop-start.seen.items (length c.loop-start.seen.items) c.loop-start.start c.index.result.now refl
+    (omega (arith, c.loop-start-test.true, c.len-count.ensures, c.loop-start.invariant.search.seen_size)) c.index.ensures ∙ ap (λ b. Some b) c.if-not-index.true) refl
 
 pub loop-start-preserved : goal.loop-start-preserved
 loop-start-preserved c = elim c.if-not-index.branch [

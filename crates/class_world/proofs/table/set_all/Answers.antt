@@ -1,23 +1,29 @@
-use Rattle.std.proofs.Common.{◌+◌, ◌∙◌, arith}
+use Rattle.std.proofs.Common.{◌+◌, ◌∙◌, refl, subst, sym, arith}
 use Rattle.std.proofs.lemmas.Option.{slice_get-get_or}
-use Rattle.class_world.proofs.Words.{all_set, more_set, none_more, SetsBefore}
-use Rattle.std.proofs.Common.{subst, sym}
+use Rattle.class_world.specs.Sound.{IsSet}
+use Rattle.class_world.proofs.Words as by
+use Rattle.class_world.proofs.Words.{SetsBefore}
 use Rattle.class_world.proofs.table.set_all.Goals as goal
 use Rattle.class_world.proofs.table.set_all.Goals.{then-i-words, else-i-words}
+
+pub loop-i-init : goal.loop-i-init
+loop-i-init c = record { len = refl; sets = by.none_before c.args.words.now c.args.words.now (IsSet c.args.more.now) refl }
 
 pub loop-i-preserved : goal.loop-i-preserved
 loop-i-preserved c = elim c.if-i-words.branch [
   | then-i-words w ↦ record {
     len = c.if-i-words.auto.words ∙ c.loop-i.invariant.len;
-    sets = more_set c.args.words.now c.loop-i.words c.args.more.now c.if-i-words.words c.loop-i.i _ _ c.loop-i.invariant.sets
-        (slice_get-get_or c.loop-i.words c.loop-i.i 0 w.if-i-words.true) (slice_get-get_or c.args.more.now c.loop-i.i 0 c.loop-i-test.true) w.words-is;
+    sets = by.more_set c.args.words.now c.loop-i.words c.if-i-words.words (IsSet c.args.more.now) c.loop-i.i _ _ c.loop-i.invariant.sets
+        (slice_get-get_or c.loop-i.words c.loop-i.i 0 w.if-i-words.true) (by.word_told c.args.more.now c.loop-i.i _ (slice_get-get_or c.args.more.now c.loop-i.i 0 c.loop-i-test.true)) w.words-is;
   }
   | else-i-words w ↦ record {
     len = c.if-i-words.auto.words ∙ c.loop-i.invariant.len;
-    sets = subst (λ ws. SetsBefore c.args.words.now ws c.args.more.now (c.loop-i.i + 1)) (sym w.words-is)
-        (none_more c.args.words.now c.loop-i.words c.args.more.now c.loop-i.i _ c.loop-i.invariant.sets c.requires (omega (arith, w.if-i-words.false, c.loop-i.invariant.len)));
+    sets = subst (λ ws. SetsBefore c.args.words.now ws (IsSet c.args.more.now) (c.loop-i.i + 1)) (sym w.words-is)
+        (by.none_more c.args.words.now c.loop-i.words (IsSet c.args.more.now) c.loop-i.i c.loop-i.invariant.sets
+        (λ h place is. let lt = c.requires h is in omega (arith, place, lt, w.if-i-words.false, c.loop-i.invariant.len)));
   }
 ]
 
 pub returns-clause-sets : goal.returns-clause-sets
-returns-clause-sets c = all_set c.args.words.now c.loop-i.words c.args.more.now c.loop-i.i c.loop-i.invariant.sets (omega arith)
+returns-clause-sets c =
+    by.all_set c.args.words.now c.loop-i.words (IsSet c.args.more.now) c.loop-i.i c.loop-i.invariant.sets (λ h is. let lt = by.set_within c.args.more.now h is in omega (arith, lt))

@@ -1,6 +1,0 @@
-use Rattle.std.proofs.Common.{◌≡◌}
-use Rattle.class_world.specs.Types.{variables}
-use Rattle.class_world.proofs.rows.own_variables.Given as goal
-
-abbrev pub invariant-loop-k : goal.invariant-loop-k
-invariant-loop-k l = l.vs ≡ variables 0 l.k
