@@ -32,6 +32,7 @@ use Rattle.decl_table.specs.Program.{Program, java, files, built, ScopeSet, Scop
 use Rattle.decl_table.specs.Judged.{IsJudged, IsDeclared, IsEarly, IsTabled, named}
 use Rattle.decl_table.proofs.Orders.{supers_in_order}
 use Rattle.decl_table.proofs.Rises.{none_rises}
+use Rattle.std.proofs.lemmas.List.{append-nil}
 
 -- ---- how many types there are
 
@@ -60,15 +61,11 @@ count_units user (u ∷ us) rest i =
     let d : length (declarations_from ((i + 1) + length us) rest) ≡ length (declarations_from (i + length (u ∷ us)) rest) = ap (λ k. length (declarations_from k rest)) (omega arith) in
     omega (arith, a, b, c, d)
 
-none_left : (xs : List File) → xs ++ [] ≡ xs
-none_left [] = refl
-none_left (x ∷ xs) = ap (λ ys. x ∷ ys) (none_left xs)
-
 pub count_declared : (user lib : List SourceUnit) → length (declarations (files_of user lib)) ≡ total declared_types user lib
 count_declared user lib =
     let a = count_units true user (files_in false lib) 0 in
     let b = count_units false lib [] (0 + length user) in
-    let c = ap (λ fs. length (declarations_from (0 + length user) fs)) (none_left (files_in false lib)) in
+    let c = ap (λ fs. length (declarations_from (0 + length user) fs)) (append-nil (files_in false lib)) in
     omega (arith, a, b, c)
 
 pub count_types : (bs : List TypeInfo) (user lib : List SourceUnit) → length bs ≡ 16 → total declared_types user lib ≤ 4096 → length (headers bs (files_of user lib)) ≤ 4112
