@@ -110,6 +110,10 @@ or_comm true false = refl
 or_comm false true = refl
 or_comm false false = refl
 
+or_false : (o : Bool) → o ≡ (o || false)
+or_false true = refl
+or_false false = refl
+
 -- the name of a new type, behind those listed
 pub has_more : (ns : List Name) (x n : Name) → has_name (ns ++ x ∷ []) n ≡ (has_name ns n || (same_name n x || false))
 has_more ns x n = list_any-append (same_name n) ns (x ∷ [])
@@ -120,17 +124,9 @@ seen_more ns x n s is = ap (λ s. same_name n x || s) is ∙ or_comm (same_name 
 -- a type that adds no name, since it is not generic or its name stands there
 pub old_name : (ns : List Name) (x n : Name) (some seen : Bool) → some && not seen ≡ false → seen ≡ has_name ns x → has_name ns n ≡ (has_name ns n || ((some && same_name n x) || false))
 old_name ns x n false seen e at = or_false (has_name ns n)
-  where
-    or_false : (o : Bool) → o ≡ (o || false)
-    or_false true = refl
-    or_false false = refl
 old_name ns x n true false e at = absurd (cc e)
 old_name ns x n true true e at = split (same_name n x) refl
   where
-    or_false : (o : Bool) → o ≡ (o || false)
-    or_false true = refl
-    or_false false = refl
-
     full : (o b : Bool) → o ≡ true → o ≡ (o || b)
     full true b e = refl
     full false b e = absurd (cc e)

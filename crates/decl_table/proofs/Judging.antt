@@ -1,12 +1,12 @@
 -- How the parts of the judging go together.
 use Rattle.std.proofs.Common.{◌≡◌, ℕ, suc, ◌+◌, ◌≤◌, Bool, true, false, List, [], ◌∷◌, ◌++◌, map, length, Option, Some, None, Result, Ok, Err, inl, inr, refl, sym, ap, ◌∙◌, subst, arith}
 use Rattle.std.specs.Prelude.{IfOk}
-use Rattle.std.proofs.lemmas.List.{length-map, length-append}
+use Rattle.std.proofs.lemmas.List.{length-map, length-append, append-nil}
 use Rattle.java_tree.specs.declared.fault.Broken.{Broken}
 use Rattle.java_tree.specs.declared.fault.Family.{Family}
 use Rattle.java_tree.specs.declared.fault.Family.TheVariants as family
 use Rattle.java_tree.specs.declared.fault.NoMemory.{NoMemory}
-use Rattle.java_tree.specs.Plain.{SourceUnit, TypeDecl}
+use Rattle.java_tree.specs.Plain.{SourceUnit}
 use Rattle.rule_order.specs.declared.Breach.{Breach}
 use Rattle.rule_order.specs.First.{Breaches, IsFirst}
 use Rattle.type_names.specs.declared.known.JavaNames.{JavaNames}
@@ -30,9 +30,9 @@ use Rattle.decl_table.specs.declared.program.Judged.TheVariants as judged
 use Rattle.decl_table.specs.Bases.{AreBases}
 use Rattle.decl_table.specs.Program.{Program, java, files, built, ScopeSet, ScopeBreaches, sum, total, type_count, method_count, DeclarationSet, IsNone, IsFirstOf, IsLimitOver, IsEarlyRefusal, IsRefusal}
 use Rattle.decl_table.specs.Judged.{IsJudged, IsDeclared, IsEarly, IsTabled, named}
+use Rattle.decl_table.proofs.Fitting.{made}
 use Rattle.decl_table.proofs.Orders.{supers_in_order}
 use Rattle.decl_table.proofs.Rises.{none_rises}
-use Rattle.std.proofs.lemmas.List.{append-nil}
 
 -- ---- how many types there are
 
@@ -46,9 +46,6 @@ count_world b j fs =
     length-append b.types (infos_from (place_among b j fs) 16 (length b.methods) (length b.fields) (declarations fs))
     ∙ ap (λ n. length b.types + n) (count_infos (place_among b j fs) (declarations fs) 16 (length b.methods) (length b.fields) ∙ sym (length-map (declarations fs) header))
     ∙ sym (length-append b.types (map header (declarations fs)))
-
-abbrev made : ℕ → File → TypeDecl → Declaration
-made i f d = record { file = f; number = i; decl = d }
 
 count_units : (user : Bool) (us : List SourceUnit) (rest : List File) (i : ℕ)
     → length (declarations_from i (files_in user us ++ rest)) ≡ sum declared_types us + length (declarations_from (i + length us) rest)

@@ -14,7 +14,7 @@ use Rattle.type_names.specs.Sees.{is_imported, is_beside, is_on_demand, first_se
 use Rattle.type_headers.specs.Declared.{Declaration, declarations_from, declarations, header, headers}
 use Rattle.decl_table.specs.Program.{NamesGenerics}
 use Rattle.decl_table.specs.Bases.{AreBases}
-use Rattle.decl_table.proofs.Fitting.{or_parts}
+use Rattle.decl_table.proofs.Fitting.{made, or_parts}
 use Rattle.decl_table.proofs.Listed.{get_either, get_mapped}
 use Rattle.decl_table.proofs.Facts.{both, one_there, name_same}
 
@@ -51,9 +51,6 @@ name_at j fs f n c e =
 
 abbrev known : Declaration → KnownType
 known x = declared_type x.file x.decl
-
-abbrev made : ℕ → File → TypeDecl → Declaration
-made i f d = record { file = f; number = i; decl = d }
 
 mapped_twice : (i : ℕ) (f : File) (ds : List TypeDecl) → map (declared_type f) ds ≡ map known (map (made i f) ds)
 mapped_twice i f [] = refl

@@ -19,8 +19,8 @@ use Rattle.program_world.specs.ProgramWorld.{Argument, passes, argument, class_f
 use Rattle.program_world.proofs.Supers.{argument_primitive, argument_null, argument_class, argument_array}
 use Rattle.written_types.specs.Places.{Place}
 use Rattle.written_types.specs.Types.{arrays, variable, takes, named_type, head_type, joined, type_of, types_of}
-use Rattle.decl_table.proofs.Facts.{both}
 use Rattle.type_names.proofs.Lists.{empty_is}
+use Rattle.decl_table.proofs.Facts.{both}
 
 -- the place's types are those of the world, and it has n type parameters
 pub record Fits (p : Place) (w : World) (n : ℕ) : Type 0 where
