@@ -1,5 +1,5 @@
 -- What the built-in types declare.
-use Rattle.std.proofs.Common.{◌≡◌, ℕ, zero, suc, ◌+◌, ◌<◌, Bool, true, false, List, [], ◌∷◌, length, Option, Some, None, refl, sym, ap, subst, arith}
+use Rattle.std.proofs.Common.{◌≡◌, ℕ, zero, suc, ◌+◌, ◌<◌, Bool, true, List, [], ◌∷◌, length, Option, Some, None, refl, sym, ap, subst, arith}
 use Rattle.std.specs.Prelude.{slice_get, nat_lt, ◌&&◌}
 use Rattle.std.proofs.lemmas.Bool.Decides.{nat_tests}
 use Rattle.class_world.specs.declared.world.TypeInfo.{TypeInfo}
@@ -8,6 +8,7 @@ use Rattle.class_world.specs.declared.world.JavaType.TheVariants as ty
 use Rattle.decl_table.specs.Bases.{IsBase, AreBases}
 use Rattle.built_in_types.specs.declared.words.Words.{Words}
 use Rattle.built_in_types.specs.BuiltIns.{type_info, types_from, superclasses, built_in_types}
+use Rattle.decl_table.proofs.Facts.{both}
 
 is_low : ℕ → Option ℕ → Bool
 is_low c None = true
@@ -16,10 +17,6 @@ is_low c (Some p) = nat_lt p c
 are_low : ℕ → List (Option ℕ) → Bool
 are_low c [] = true
 are_low c (above ∷ rest) = is_low c above && are_low (c + 1) rest
-
-both : (a b : Bool) → a && b ≡ true → (a ≡ true) × (b ≡ true)
-both true b e = (refl, e)
-both false b e = absurd (cc e)
 
 base_at : (w : Words) (c : ℕ) (above : Option ℕ) → is_low c above ≡ true → IsBase c (type_info w c above)
 unfolding is_low

@@ -18,9 +18,7 @@ use Rattle.decl_table.specs.Clashes.{node_at, IsFirstClash}
 use Rattle.decl_table.proofs.Listed.{get_front}
 use Rattle.decl_table.proofs.Lows.{not_below_two}
 use Rattle.decl_table.proofs.Supers.{type_at}
-
-one_there : {A : Type 0} (o : Option A) (x y : A) → o ≡ Some x → o ≡ Some y → x ≡ y
-one_there o x y e f = cc (e, f)
+use Rattle.decl_table.proofs.Facts.{one_there}
 
 -- a type of the world that is below two has a declaration
 pub declared_clash : (built : BuiltIns) (j : JavaNames) (fs : List File) → AreBases built.types → (c : ℕ) → IsClassBelowTwo (world_of built j fs) c

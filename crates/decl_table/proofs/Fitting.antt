@@ -18,7 +18,7 @@ abbrev pub HaveParams : List TypeInfo → World → Type 0
 HaveParams types w = (c : ℕ) (info : TypeInfo) → slice_get types c ≡ Some info → (own : TypeInfo) × (slice_get w.types c ≡ Some own) × (own.params ≡ info.params)
 
 -- a declaration of a file
-abbrev made : ℕ → File → TypeDecl → Declaration
+abbrev pub made : ℕ → File → TypeDecl → Declaration
 made i f d = record { file = f; number = i; decl = d }
 
 count_from : (i : ℕ) (fs : List File) → length (flat_map types_in fs) ≡ length (declarations_from i fs)

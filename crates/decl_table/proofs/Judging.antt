@@ -1,12 +1,12 @@
 -- How the parts of the judging go together.
 use Rattle.std.proofs.Common.{◌≡◌, ℕ, suc, ◌+◌, ◌≤◌, Bool, true, false, List, [], ◌∷◌, ◌++◌, map, length, Option, Some, None, Result, Ok, Err, inl, inr, refl, sym, ap, ◌∙◌, subst, arith}
 use Rattle.std.specs.Prelude.{IfOk}
-use Rattle.std.proofs.lemmas.List.{length-map, length-append}
+use Rattle.std.proofs.lemmas.List.{length-map, length-append, append-nil}
 use Rattle.java_tree.specs.declared.fault.Broken.{Broken}
 use Rattle.java_tree.specs.declared.fault.Family.{Family}
 use Rattle.java_tree.specs.declared.fault.Family.TheVariants as family
 use Rattle.java_tree.specs.declared.fault.NoMemory.{NoMemory}
-use Rattle.java_tree.specs.Plain.{SourceUnit, TypeDecl}
+use Rattle.java_tree.specs.Plain.{SourceUnit}
 use Rattle.rule_order.specs.declared.Breach.{Breach}
 use Rattle.rule_order.specs.First.{Breaches, IsFirst}
 use Rattle.type_names.specs.declared.known.JavaNames.{JavaNames}
@@ -30,6 +30,7 @@ use Rattle.decl_table.specs.declared.program.Judged.TheVariants as judged
 use Rattle.decl_table.specs.Bases.{AreBases}
 use Rattle.decl_table.specs.Program.{Program, java, files, built, ScopeSet, ScopeBreaches, sum, total, type_count, method_count, DeclarationSet, IsNone, IsFirstOf, IsLimitOver, IsEarlyRefusal, IsRefusal}
 use Rattle.decl_table.specs.Judged.{IsJudged, IsDeclared, IsEarly, IsTabled, named}
+use Rattle.decl_table.proofs.Fitting.{made}
 use Rattle.decl_table.proofs.Orders.{supers_in_order}
 use Rattle.decl_table.proofs.Rises.{none_rises}
 
@@ -46,9 +47,6 @@ count_world b j fs =
     ∙ ap (λ n. length b.types + n) (count_infos (place_among b j fs) (declarations fs) 16 (length b.methods) (length b.fields) ∙ sym (length-map (declarations fs) header))
     ∙ sym (length-append b.types (map header (declarations fs)))
 
-abbrev made : ℕ → File → TypeDecl → Declaration
-made i f d = record { file = f; number = i; decl = d }
-
 count_units : (user : Bool) (us : List SourceUnit) (rest : List File) (i : ℕ)
     → length (declarations_from i (files_in user us ++ rest)) ≡ sum declared_types us + length (declarations_from (i + length us) rest)
 count_units user [] rest i = ap (λ k. length (declarations_from k rest)) (let e : i ≡ i + 0 = omega arith in e) ∙ (let e : length (declarations_from (i + 0) rest) ≡ 0 + length (declarations_from (i + 0) rest) = omega arith in e)
@@ -60,15 +58,11 @@ count_units user (u ∷ us) rest i =
     let d : length (declarations_from ((i + 1) + length us) rest) ≡ length (declarations_from (i + length (u ∷ us)) rest) = ap (λ k. length (declarations_from k rest)) (omega arith) in
     omega (arith, a, b, c, d)
 
-none_left : (xs : List File) → xs ++ [] ≡ xs
-none_left [] = refl
-none_left (x ∷ xs) = ap (λ ys. x ∷ ys) (none_left xs)
-
 pub count_declared : (user lib : List SourceUnit) → length (declarations (files_of user lib)) ≡ total declared_types user lib
 count_declared user lib =
     let a = count_units true user (files_in false lib) 0 in
     let b = count_units false lib [] (0 + length user) in
-    let c = ap (λ fs. length (declarations_from (0 + length user) fs)) (none_left (files_in false lib)) in
+    let c = ap (λ fs. length (declarations_from (0 + length user) fs)) (append-nil (files_in false lib)) in
     omega (arith, a, b, c)
 
 pub count_types : (bs : List TypeInfo) (user lib : List SourceUnit) → length bs ≡ 16 → total declared_types user lib ≤ 4096 → length (headers bs (files_of user lib)) ≤ 4112

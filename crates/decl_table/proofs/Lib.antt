@@ -12,6 +12,7 @@ pub mod Bases
 pub mod Listed
 pub mod Supers
 pub mod Orders
+pub mod Facts
 pub mod GenericSeen
 pub mod FileLists
 pub mod Meanings

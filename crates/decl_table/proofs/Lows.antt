@@ -1,5 +1,5 @@
 -- No built-in type is below a parameterized type.
-use Rattle.std.proofs.Common.{◌≡◌, ℕ, ◌<◌, List, [], Option, Some, inl, inr, refl, sym, ap, ◌∙◌, subst, arith}
+use Rattle.std.proofs.Common.{◌≡◌, ℕ, ◌<◌, List, [], Some, inl, inr, refl, sym, ap, ◌∙◌, subst, arith}
 use Rattle.std.specs.Prelude.{slice_get}
 use Rattle.class_world.specs.declared.world.World.{World}
 use Rattle.class_world.specs.declared.world.TypeInfo.{TypeInfo}
@@ -12,6 +12,7 @@ use Rattle.class_world.proofs.Forms.{class_kind, array_kind, same_class}
 use Rattle.class_world.proofs.Substs.{put_class}
 use Rattle.decl_table.specs.Bases.{AreBases}
 use Rattle.decl_table.proofs.Fitting.{get_there}
+use Rattle.decl_table.proofs.Facts.{one_there}
 
 -- the built-in types come first in the world
 abbrev pub BeginsWith : List TypeInfo → World → Type 0
@@ -19,9 +20,6 @@ BeginsWith built w = (c : ℕ) (info : TypeInfo) → slice_get built c ≡ Some 
 
 abbrev IsLow : JavaType → Type 0
 IsLow t = (p : ℕ) × (p < 16) × (t ≡ ty.Class p [])
-
-one_there : {A : Type 0} (o : Option A) (x y : A) → o ≡ Some x → o ≡ Some y → x ≡ y
-one_there o x y e f = cc (e, f)
 
 -- what a base's declared supertype is seen as
 seen_low : (n : ℕ) (d t : JavaType) → n ≡ 0 → IsLow d → IsSeenAs n [] d t → IsLow t

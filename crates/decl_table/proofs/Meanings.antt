@@ -1,10 +1,9 @@
 -- The type that a name means has this name.
-use Rattle.std.proofs.Common.{◌≡◌, ℕ, suc, ◌+◌, Bool, true, false, ◌&&◌, List, [], ◌∷◌, ◌++◌, map, length, Option, Some, inl, inr, refl, sym, ap, ◌∙◌, subst, arith}
+use Rattle.std.proofs.Common.{◌≡◌, ℕ, suc, ◌+◌, Bool, true, false, ◌&&◌, List, [], ◌∷◌, ◌++◌, map, length, Some, inl, inr, refl, sym, ap, ◌∙◌, subst, arith}
 use Rattle.std.specs.Prelude.{slice_get, flat_map, if◌then◌else◌, nat_eq}
 use Rattle.std.specs.List.{position_from}
 use Rattle.std.specs.Option.{option_or}
 use Rattle.std.proofs.lemmas.Option.{slice_get_within}
-use Rattle.std.proofs.lemmas.Bool.Decides.{nat_tests}
 use Rattle.std.proofs.lemmas.List.{length-map, map-append}
 use Rattle.java_tree.specs.declared.tree.Name.{Name}
 use Rattle.java_tree.specs.Plain.{TypeDecl}
@@ -15,8 +14,9 @@ use Rattle.type_names.specs.Sees.{is_imported, is_beside, is_on_demand, first_se
 use Rattle.type_headers.specs.Declared.{Declaration, declarations_from, declarations, header, headers}
 use Rattle.decl_table.specs.Program.{NamesGenerics}
 use Rattle.decl_table.specs.Bases.{AreBases}
-use Rattle.decl_table.proofs.Fitting.{or_parts}
+use Rattle.decl_table.proofs.Fitting.{made, or_parts}
 use Rattle.decl_table.proofs.Listed.{get_either, get_mapped}
+use Rattle.decl_table.proofs.Facts.{both, one_there, name_same}
 
 found_at : {A : Type 0} (q : A → Bool) (i : ℕ) (xs : List A) (k : ℕ) → position_from q i xs ≡ Some k → (m : ℕ) × (x : A) × (k ≡ i + m) × (slice_get xs m ≡ Some x) × (q x ≡ true)
 found_at q i [] k e = absurd (cc e)
@@ -28,23 +28,13 @@ found_at {A} q i (x ∷ xs) k e = split (q x) refl e (found_at q (i + 1) xs k)
     split true is e later = let same : i ≡ k = cc e in (0, x, omega (arith, same), refl, is)
     split false is e later = let rest = later e in (suc rest.0, rest.1, omega (arith, rest.2), rest.3, rest.4)
 
-both : (a b : Bool) → a && b ≡ true → a ≡ true
-both true b e = refl
-both false b e = absurd (cc e)
-
-name_same : (m n : Name) → nat_eq m.0 n.0 ≡ true → m ≡ n
-name_same m n e = made m.0 n.0 (let same : m.0 ≡ n.0 = grind (arith, nat_tests, e) in same)
-  where
-    made : (a b : ℕ) → a ≡ b → ◌≡◌ {A = Name} (record { 0 = a }) (record { 0 = b })
-    made a b e = rw e refl
-
 abbrev HasNameAt : List KnownType → ℕ → Name → Type 0
 HasNameAt ts c n = (t : KnownType) × (slice_get ts c ≡ Some t) × (t.name ≡ n)
 
 seen_at : (n : Name) (sees : KnownType → Bool) (ts : List KnownType) (c : ℕ) → first_seen n sees ts ≡ Some c → HasNameAt ts c n
 seen_at n sees ts c e =
     let found = found_at (λ t. nat_eq t.name.0 n.0 && sees t) 0 ts c e in
-    (found.1, subst (λ k. slice_get ts k ≡ Some found.1) (let e : found.0 ≡ c = omega (arith, found.2) in e) found.3, name_same found.1.name n (both (nat_eq found.1.name.0 n.0) (sees found.1) found.4))
+    (found.1, subst (λ k. slice_get ts k ≡ Some found.1) (let e : found.0 ≡ c = omega (arith, found.2) in e) found.3, name_same found.1.name n (both (nat_eq found.1.name.0 n.0) (sees found.1) found.4).0)
 
 name_at : (j : JavaNames) (fs : List File) (f : File) (n : Name) (c : ℕ) → meant j fs f n ≡ Some c → HasNameAt (types_of j fs) c n
 name_at j fs f n c e =
@@ -62,9 +52,6 @@ name_at j fs f n c e =
 abbrev known : Declaration → KnownType
 known x = declared_type x.file x.decl
 
-abbrev made : ℕ → File → TypeDecl → Declaration
-made i f d = record { file = f; number = i; decl = d }
-
 mapped_twice : (i : ℕ) (f : File) (ds : List TypeDecl) → map (declared_type f) ds ≡ map known (map (made i f) ds)
 mapped_twice i f [] = refl
 mapped_twice i f (d ∷ ds) = ap (λ ts. declared_type f d ∷ ts) (mapped_twice i f ds)
@@ -74,9 +61,6 @@ known_list i [] = refl
 known_list i (f ∷ fs) =
     ap (λ ts. ts ++ flat_map types_in fs) (mapped_twice i f f.unit.types) ∙ ap (λ ts. map known (map (made i f) f.unit.types) ++ ts) (known_list (i + 1) fs)
     ∙ sym (map-append known (map (made i f) f.unit.types) (declarations_from (i + 1) fs))
-
-one_there : {A : Type 0} (o : Option A) (x y : A) → o ≡ Some x → o ≡ Some y → x ≡ y
-one_there o x y e f = cc (e, f)
 
 pub names_generics : (built : List TypeInfo) (j : JavaNames) (fs : List File) → AreBases built → NamesGenerics (headers built fs) j fs
 names_generics built j fs bases f n c info mean there some =

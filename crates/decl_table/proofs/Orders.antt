@@ -1,5 +1,5 @@
 -- Where no supertype is wrong, the supertypes that the world declares are in order.
-use Rattle.std.proofs.Common.{◌≡◌, ℕ, zero, suc, ◌<◌, Bool, true, false, ◌&&◌, List, [], ◌∷◌, length, Option, Some, None, inl, inr, refl, sym, ap, ◌∙◌, subst, arith}
+use Rattle.std.proofs.Common.{◌≡◌, ℕ, zero, suc, ◌<◌, Bool, true, false, List, [], ◌∷◌, length, Option, Some, None, inl, inr, refl, sym, ap, ◌∙◌, subst, arith}
 use Rattle.std.specs.Prelude.{slice_get, if◌then◌else◌}
 use Rattle.std.specs.Option.{option_map}
 use Rattle.std.proofs.lemmas.Option.{slice_get_within}
@@ -33,6 +33,7 @@ use Rattle.decl_table.proofs.Wholes.{said_parts, joined_parts, over_class, type_
 use Rattle.decl_table.proofs.Fitting.{place_fits, get_there}
 use Rattle.decl_table.proofs.Listed.{get_front, contains_at}
 use Rattle.decl_table.proofs.Supers.{IsInfoOf, type_at, same_params, IsWrittenSuper, super_at}
+use Rattle.decl_table.proofs.Facts.{both, one_there}
 
 -- ---- a written class type
 
@@ -78,10 +79,6 @@ map_some : {A B : Type 0} (f : A → B) (o : Option A) (y : B) → option_map f 
 map_some f None y e = absurd (cc e)
 map_some f (Some x) y e = (x, refl, cc e)
 
-both : (a b : Bool) → a && b ≡ true → (a ≡ true) × (b ≡ true)
-both true b e = (refl, e)
-both false b e = absurd (cc e)
-
 -- a written supertype is a class type over the type parameters of its class
 pub written_over : (built : BuiltIns) (j : JavaNames) (fs : List File) → AreBases built.types → (x : Declaration) (s : JavaType) → IsWrittenSuper (place_among built j fs x) x.decl s
     → IsClassOver (world_of built j fs) (length x.decl.params) s
@@ -93,10 +90,6 @@ written_over built j fs bases x s (i, y, there, says, super) =
 
 bare_super : (w : World) (n g : ℕ) (info : TypeInfo) → slice_get w.types g ≡ Some info → info.params ≡ 0 → IsSuper w n (ty.Class g [])
 bare_super w n g info at none = (a_class at (inl refl) (λ k a e. absurd (cc e)) (λ k a e. absurd (cc e)), (g, [], info, refl, at, sym none))
-
--- what stands at a number is one
-one_there : {A : Type 0} (o : Option A) (x y : A) → o ≡ Some x → o ≡ Some y → x ≡ y
-one_there o x y e f = cc (e, f)
 
 abbrev AreRight : BuiltIns → JavaNames → List File → Type 0
 AreRight built j fs = (b : Breach) → DeclaredTypeBreaches j fs (headers built.types fs) b → ⊥

@@ -13,6 +13,7 @@ use Rattle.java_typing.specs.Main.{before_last}
 use Rattle.java_tree.specs.declared.tree.Name.{Name}
 use Rattle.java_typing.specs.WorldOf.{place_of, type_number}
 use Rattle.decl_table.specs.Classes.{HaveOwnNames}
+use Rattle.decl_table.proofs.Listed.{get_front}
 
 -- ---- an element of a list
 
@@ -28,11 +29,6 @@ to_front xs zero k x h e = absurd (omega arith)
 to_front [] (suc n) k x h e = e
 to_front (y ∷ xs) (suc n) zero x h e = e
 to_front (y ∷ xs) (suc n) (suc k) x h e = to_front xs n k x (omega arith) e
-
-pub left : {X : Type 0} (xs ys : List X) (k : ℕ) (x : X) → slice_get xs k ≡ Some x → slice_get (xs ++ ys) k ≡ Some x
-left [] ys k x e = absurd (cc e)
-left (y ∷ xs) ys zero x e = e
-left (y ∷ xs) ys (suc k) x e = left xs ys k x e
 
 pub front_more : {X : Type 0} (xs : List X) (n : ℕ) (x : X) → slice_get xs n ≡ Some x → take (n + 1) xs ≡ take n xs ++ x ∷ []
 front_more xs n x e = take_more xs n x (slice_get_within xs n x e) ∙ ap (λ y. take n xs ++ y ∷ []) (get_or_from_slice_get xs n x x e)
@@ -196,7 +192,7 @@ without_last ds n d q size h own = ⊎_elim here other (cases_eq d.name.0 q)
     before : (j : ℕ) (x : TypeDecl) → slice_get (before_last ds) j ≡ Some x → (j < n) × (slice_get ds j ≡ Some x)
     before j x e =
         let inside = slice_get_within (before_last ds) j x e in
-        (omega (arith, length-before_last ds), ap (λ xs. slice_get xs j) split ∙ left (before_last ds) (d ∷ []) j x e)
+        (omega (arith, length-before_last ds), ap (λ xs. slice_get xs j) split ∙ get_front (before_last ds) (d ∷ []) j x e)
 
     here : d.name.0 ≡ q → cond (eqb d.name.0 q) None (place_of q ds 16) ≡ place_of q (before_last ds) 16
     here is =

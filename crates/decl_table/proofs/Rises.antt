@@ -1,5 +1,5 @@
 -- A type that is above itself in the world is above itself by what is written.
-use Rattle.std.proofs.Common.{◌≡◌, ℕ, ◌<◌, List, [], map, length, Option, Some, ◌⊎◌, inl, inr, refl, sym, ap, ◌∙◌, subst, arith, get_or}
+use Rattle.std.proofs.Common.{◌≡◌, ℕ, ◌<◌, List, [], map, length, Some, ◌⊎◌, inl, inr, refl, sym, ap, ◌∙◌, subst, arith, get_or}
 use Rattle.std.specs.Prelude.{slice_get}
 use Rattle.std.proofs.lemmas.Option.{slice_get_within, slice_get_read}
 use Rattle.rule_order.specs.declared.Breach.{Breach}
@@ -22,9 +22,6 @@ use Rattle.decl_table.specs.Bases.{AreBases}
 use Rattle.decl_table.proofs.Listed.{get_front, get_either, contains_at}
 use Rattle.decl_table.proofs.Supers.{type_at, super_at}
 use Rattle.decl_table.proofs.Orders.{class_written, class_supers}
-
-one_there : {A : Type 0} (o : Option A) (x y : A) → o ≡ Some x → o ≡ Some y → x ≡ y
-one_there o x y e f = cc (e, f)
 
 -- a declared supertype of the world is written, or it is Object
 super_edge : (built : BuiltIns) (j : JavaNames) (fs : List File) → AreBases built.types → (c g : ℕ) (args : List JavaType) → IsDirectSuper (world_of built j fs) c (ty.Class g args)

@@ -1,5 +1,5 @@
 -- A type that is written is one of the world, where the names have their types there.
-use Rattle.std.proofs.Common.{◌≡◌, ℕ, zero, suc, ◌+◌, ◌<◌, Bool, true, false, ◌&&◌, List, [], ◌∷◌, map, length, Option, Some, None, ◌⊎◌, inl, inr, refl, sym, ap, ◌∙◌, subst, arith}
+use Rattle.std.proofs.Common.{◌≡◌, ℕ, zero, suc, ◌+◌, ◌<◌, Bool, true, false, List, [], ◌∷◌, map, length, Option, Some, None, ◌⊎◌, inl, inr, refl, sym, ap, ◌∙◌, subst, arith}
 use Rattle.std.specs.Prelude.{slice_get, if◌then◌else◌, option_and_then}
 use Rattle.std.specs.Option.{option_map}
 use Rattle.std.specs.List.{position_from, list_all}
@@ -19,6 +19,8 @@ use Rattle.program_world.specs.ProgramWorld.{Argument, passes, argument, class_f
 use Rattle.program_world.proofs.Supers.{argument_primitive, argument_null, argument_class, argument_array}
 use Rattle.written_types.specs.Places.{Place}
 use Rattle.written_types.specs.Types.{arrays, variable, takes, named_type, head_type, joined, type_of, types_of}
+use Rattle.type_names.proofs.Lists.{empty_is}
+use Rattle.decl_table.proofs.Facts.{both}
 
 -- the place's types are those of the world, and it has n type parameters
 pub record Fits (p : Place) (w : World) (n : ℕ) : Type 0 where
@@ -37,10 +39,6 @@ AreOver w n args = (k : ℕ) (a : JavaType) → slice_get args k ≡ Some a → 
 
 array_whole : (x : JavaType) → IsWhole (ty.Array x) → IsWhole x
 array_whole x h = sym (ap (λ (a : Argument). a.whole) (argument_array x)) ∙ h
-
-both : (a b : Bool) → a && b ≡ true → (a ≡ true) × (b ≡ true)
-both true b e = (refl, e)
-both false b e = absurd (cc e)
 
 all_pass : (xs : List JavaType) → list_all passes (map argument xs) ≡ true → AreWhole xs
 all_pass [] e k a at = absurd (cc at)
@@ -113,15 +111,11 @@ takes_fit : (m k : ℕ) → takes (Some m) k ≡ true → (k ≡ 0) ⊎ (k ≡ m
 takes_fit m zero e = inl refl
 takes_fit m (suc k) e = inr (sym (grind (arith, nat_tests, e)))
 
-none_long : {A : Type 0} (xs : List A) → length xs ≡ 0 → xs ≡ []
-none_long [] e = refl
-none_long (x ∷ xs) e = absurd (omega (arith, e))
-
 class_over : (p : Place) (w : World) (n : ℕ) → Fits p w n → (x : Name) (c : ℕ) (args : List JavaType) → p.mean x ≡ Some c → takes (p.params c) (length args) ≡ true
     → AreReferences args → AreOver w n args → IsTypeOver w n (ty.Class c args)
 class_over p w n fits x c args mean fit refs over =
     let is = fits.known x c mean in
-    a_class is.1 (elim (takes_fit is.0.params (length args) (ap (λ q. takes q (length args)) (sym is.2) ∙ fit)) [ inl none ↦ inl (none_long args none) | inr all ↦ inr all ]) refs over
+    a_class is.1 (elim (takes_fit is.0.params (length args) (ap (λ q. takes q (length args)) (sym is.2) ∙ fit)) [ inl none ↦ inl (empty_is args none) | inr all ↦ inr all ]) refs over
 
 named_over : (p : Place) (w : World) (n : ℕ) → Fits p w n → (x : Name) (args : List JavaType) (v m : Option ℕ) (z : JavaType) → variable x p.vars ≡ v → p.mean x ≡ m
     → named_type p v m args ≡ Some z → IsWhole z → AreOver w n args → IsTypeOver w n z × no_null z

@@ -17,26 +17,15 @@ use Rattle.java_typing.specs.Declarations.{TypesDiffer, written_methods}
 use Rattle.decl_table.specs.Classes.{HaveOwnNames}
 use Rattle.decl_table.specs.Numbered.{HaveSingleSupers}
 use Rattle.decl_table.specs.BuiltIns.{built_in_at}
-use Rattle.decl_table.proofs.Places.{placed, left, length-before_last}
+use Rattle.decl_table.proofs.Listed.{get_either, get_front, get_mapped}
+use Rattle.decl_table.proofs.Places.{placed, length-before_last}
 use Rattle.decl_table.proofs.BuiltInLists.{in_table, row_cases}
 
--- ---- two lists, one behind the other
-
--- an element of the two stands in one of them
-at_split : {X : Type 0} (xs ys : List X) (k : ℕ) (x : X) → slice_get (xs ++ ys) k ≡ Some x → (slice_get xs k ≡ Some x) ⊎ ((j : ℕ) × (k ≡ length xs + j) × (slice_get ys j ≡ Some x))
-at_split [] ys k x e = inr (k, omega arith, e)
-at_split (y ∷ xs) ys zero x e = inl e
-at_split (y ∷ xs) ys (suc k) x e = elim (at_split xs ys k x e) [ inl h ↦ inl h | inr h ↦ inr (h.0, omega (arith, h.1), h.2) ]
-
+-- an element of the second of two lists
 right : {X : Type 0} (xs ys : List X) (j k : ℕ) (x : X) → k ≡ length xs + j → slice_get ys j ≡ Some x → slice_get (xs ++ ys) k ≡ Some x
 right [] ys j k x e h = ap (slice_get ys) (let same : k ≡ j = omega arith in same) ∙ h
 right (y ∷ xs) ys j zero x e h = absurd (omega arith)
 right (y ∷ xs) ys j (suc k) x e h = right xs ys j k x (omega arith) h
-
-mapped_item : {X Y : Type 0} (f : X → Y) (xs : List X) (k : ℕ) (y : Y) → slice_get (map f xs) k ≡ Some y → (x : X) × (slice_get xs k ≡ Some x) × (y ≡ f x)
-mapped_item f [] k y e = absurd (cc e)
-mapped_item f (x ∷ xs) zero y e = let same : f x ≡ y = cc e in (x, refl, sym same)
-mapped_item f (x ∷ xs) (suc k) y e = mapped_item f xs k y e
 
 -- ---- rows of numbers
 
@@ -103,7 +92,7 @@ module _ (u : SourceUnit) where
   low_or_zero (Some p) n some low = low p refl
 
   pub single_supers : HaveSingleSupers (world_of u)
-  single_supers c info e = elim (at_split built_in_types (infos_of u 1 u.types) c info e) [
+  single_supers c info e = elim (get_either built_in_types (infos_of u 1 u.types) c info e) [
     | inl h ↦
         let item = in_table c info h in
         elim (row_cases c item.0 item.1) [
@@ -125,12 +114,12 @@ module _ (u : SourceUnit) where
   built_in_here c low =
       let x = get_or built_in_types c (built_in_at 0 None) in
       let here = slice_get-get_or built_in_types c (built_in_at 0 None) low in
-      (x, left built_in_types (infos_of u 1 u.types) c x here, ap (λ (i : TypeInfo). i.name.0) (in_table c x here).2)
+      (x, get_front built_in_types (infos_of u 1 u.types) c x here, ap (λ (i : TypeInfo). i.name.0) (in_table c x here).2)
 
   -- a type of the world is a built-in one, named by its number, or one of the file's
   type_cases : (c : ℕ) (x : TypeInfo) → slice_get (world_of u).types c ≡ Some x
       → ((c < 16) × (x.name.0 ≡ c)) ⊎ ((j : ℕ) × (c ≡ 16 + j) × ((d : TypeDecl) × (slice_get u.types j ≡ Some d) × (x.name ≡ d.name)))
-  type_cases c x e = elim (at_split built_in_types (infos_of u 1 u.types) c x e) [
+  type_cases c x e = elim (get_either built_in_types (infos_of u 1 u.types) c x e) [
     | inl h ↦ inl (slice_get_within built_in_types c x h, ap (λ (i : TypeInfo). i.name.0) (in_table c x h).2)
     | inr h ↦ let item = infos_item 1 u.types h.0 x h.2 in inr (h.0, h.1, (item.0, item.1, ap (λ (i : TypeInfo). i.name) item.2.1))
   ]
@@ -191,11 +180,11 @@ module _ (u : SourceUnit) where
   -- a method of the first type, or one of a later type
   method_cases : (c : ℕ) (d : TypeDecl) (ds : List TypeDecl) (i : ℕ) (x : MethodInfo) → slice_get (methods_of u c (d ∷ ds)) i ≡ Some x
       → ((i < length d.members + 1) × (x.owner ≡ c)) ⊎ ((k : ℕ) × (i ≡ length d.members + 1 + k) × (slice_get (methods_of u (c + 1) ds) k ≡ Some x))
-  method_cases c d ds i x e = elim (at_split (map (method_info u c) d.members) (default_constructor c d.name d.mods ∷ methods_of u (c + 1) ds) i x e) [
+  method_cases c d ds i x e = elim (get_either (map (method_info u c) d.members) (default_constructor c d.name d.mods ∷ methods_of u (c + 1) ds) i x e) [
     | inl h ↦
-        let own = mapped_item (method_info u c) d.members i x h in
+        let own = get_mapped (method_info u c) d.members i x h in
         let within = slice_get_within d.members i own.0 own.1 in
-        inl (omega (arith, within), ap (λ (y : MethodInfo). y.owner) own.2 ∙ owner_is c own.0)
+        inl (omega (arith, within), ap (λ (y : MethodInfo). y.owner) (sym own.2) ∙ owner_is c own.0)
     | inr h ↦ last h.0 h.1 h.2
   ]
     where
@@ -292,7 +281,7 @@ module _ (u : SourceUnit) where
       )
 
       lists : (c : ℕ) (info : TypeInfo) (m : ℕ) → slice_get (world_of u).types c ≡ Some info → Contains info.methods m ↔ IsOwned (world_of u) c m
-      lists c info m e = elim (at_split built_in_types (infos_of u 1 u.types) c info e) [
+      lists c info m e = elim (get_either built_in_types (infos_of u 1 u.types) c info e) [
         | inl h ↦
             let item = in_table c info h in
             built_in_lists c info m (slice_get_within built_in_types c info h) (elim (row_cases c item.0 item.1) [

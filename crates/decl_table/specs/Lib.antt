@@ -8,3 +8,4 @@ pub mod Files
 pub mod Bases
 pub mod Clashes
 pub mod Judged
+pub mod ByName

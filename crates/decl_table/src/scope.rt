@@ -10,10 +10,11 @@ ghost use Rattle.type_names.specs.Tables.{StandsFor, files_in};
 ghost use Rattle.class_world.specs.declared.world.TypeInfo as spec_world;
 ghost use Rattle.type_headers.specs.Declared.{headers};
 ghost use Rattle.decl_table.specs.Bases.{AreBases};
+ghost use Rattle.decl_table.specs.ByName.{AreGenericNames};
 ghost use Rattle.decl_table.specs.Program.{NamesGenerics, PlainBreaches, ScopeSet};
 ghost use Rattle.decl_table.specs.Files.{StandAt};
 
-use crate::generics::generic_names;
+use crate::generics::GenericTypes;
 use class_world::TypeInfo;
 use decl_rules::first_plain;
 use java_tree::tree::SourceUnit;
@@ -56,8 +57,9 @@ fn first_plain_breach(
     ensures { (j : spec.JavaNames) → StandsFor meant.now j (files_of (map unit_plain user.now) (map unit_plain lib.now)) → NamesGenerics types.now j (files_of (map unit_plain user.now) (map unit_plain lib.now))
         → IfOk result (λ r. IsFirst (Among (PlainBreaches names.now j (files_of (map unit_plain user.now) (map unit_plain lib.now)) types.now) (files_of (map unit_plain user.now) (map unit_plain lib.now))) r) }
 {
-    let in_user = first_of_units(alloc, names, meant, types, user, true, 0)?;
-    let in_lib = first_of_units(alloc, names, meant, types, lib, false, user.len())?;
+    let generic = GenericTypes::of(alloc, types)?;
+    let in_user = first_of_units(alloc, names, meant, &generic, user, true, 0)?;
+    let in_lib = first_of_units(alloc, names, meant, &generic, lib, false, user.len())?;
     Ok(earlier(in_user, in_lib))
 }
 
@@ -66,20 +68,21 @@ fn first_of_units(
     alloc: Global,
     names: &Names,
     meant: &TypeNames,
-    types: &[TypeInfo],
+    generic: &GenericTypes<'_>,
     units: &[SourceUnit],
     user: bool,
     before: usize,
 ) -> Result<Option<Breach>, NoMemory>
-    ensures { (j : spec.JavaNames) (fs : List File) → StandsFor meant.now j fs → NamesGenerics types.now j fs → StandAt fs before (files_in user (map unit_plain units.now))
-        → IfOk result (λ r. IsFirst (Among (PlainBreaches names.now j fs types.now) (files_in user (map unit_plain units.now))) r) }
+    requires { AreGenericNames generic.now.types.now generic.now.names }
+    ensures { (j : spec.JavaNames) (fs : List File) → StandsFor meant.now j fs → NamesGenerics generic.now.types.now j fs → StandAt fs before (files_in user (map unit_plain units.now))
+        → IfOk result (λ r. IsFirst (Among (PlainBreaches names.now j fs generic.now.types.now) (files_in user (map unit_plain units.now))) r) }
 {
     let mut first = None;
     for (at, unit) in units.iter().enumerate() {
         let Ok(file) = u32::try_from(before.saturating_add(at)) else {
             return Err(NoMemory);
         };
-        let generics = generic_names(alloc, meant, types, file)?;
+        let generics = generic.named_in(alloc, meant, file)?;
         first = earlier(first, first_plain(unit, user, names, &generics));
     }
     Ok(first)

@@ -13,7 +13,7 @@ use Rattle.decl_table.proofs.scope.first_of_units.Goals as goal
 
 pub loop-at-preserved : goal.loop-at-preserved
 loop-at-preserved c = λ j fs stands named there.
-    let ts = c.args.types.now in
+    let ts = c.args.generic.now.types.now in
     let f : File = record { unit = unit_plain c.index-units-at.result; user = c.args.user } in
     let number : c.in-Ok.file ≡ c.args.before + c.loop-at.at = search rules in
     let at : slice_get fs c.in-Ok.file ≡ Some f =
@@ -25,5 +25,5 @@ loop-at-preserved c = λ j fs stands named there.
 
 pub returns : goal.returns
 returns c = λ j fs stands named there.
-    subst (λ us. IsFirst (Among (PlainBreaches c.args.names.now j fs c.args.types.now) (files_in c.args.user (map unit_plain us))) c.loop-at.first)
+    subst (λ us. IsFirst (Among (PlainBreaches c.args.names.now j fs c.args.generic.now.types.now) (files_in c.args.user (map unit_plain us))) c.loop-at.first)
     (take_all c.loop-at.at c.args.units.now c.loop-at-test.false) (c.loop-at.invariant j fs stands named there)

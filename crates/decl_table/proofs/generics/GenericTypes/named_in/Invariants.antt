@@ -7,8 +7,8 @@ use Rattle.type_names.specs.declared.known.JavaNames.{JavaNames}
 use Rattle.type_names.specs.Known.{File}
 use Rattle.type_names.specs.Tables.{StandsFor}
 use Rattle.decl_table.proofs.GenericSeen.{adds}
-use Rattle.decl_table.proofs.generics.generic_names.Given as goal
+use Rattle.decl_table.proofs.generics.GenericTypes.named_in.Given as goal
 
-abbrev pub invariant-loop-info : goal.invariant-loop-info
-invariant-loop-info l = (j : JavaNames) (fs : List File) (f : File) → StandsFor l.names j fs → slice_get fs l.file ≡ Some f
-    → (n : Name) → is_generic l.generics n ≡ list_any (adds j fs l.types f n) (take l.info-index l.types)
+abbrev pub invariant-loop-name : goal.invariant-loop-name
+invariant-loop-name l = (j : JavaNames) (fs : List File) (f : File) → StandsFor l.meant j fs → slice_get fs l.file ≡ Some f
+    → (n : Name) → is_generic l.generics n ≡ list_any (adds j fs l.self.types.now f n) (take l.name-index l.name-items)
