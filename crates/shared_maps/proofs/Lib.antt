@@ -1,0 +1,5 @@
+pub mod Nodes
+pub mod Walks
+pub mod Listed
+pub mod Views
+pub mod Kept

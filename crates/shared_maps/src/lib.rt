@@ -1,0 +1,108 @@
+//! Maps from numbers to numbers that share what they have in common.
+#![tactic(auto)]
+
+ghost use Rattle.std.specs.Prelude.{◌≡◌, ◌==◌, ℕ, ◌<◌, None, if◌then◌else◌, IfOk};
+ghost use Rattle.shared_maps.specs.Maps.{AreEntries, IsMap, KeepsMaps, value_in};
+
+#[cfg(test)]
+mod tests;
+mod trees;
+
+use java_tree::{Items, NoMemory};
+use std::alloc::Global;
+use std::marker::Model;
+use trees::{Node, add_entries, found, height_for, with_value};
+
+/// The number of a map. It means something in the memory alone that gave it.
+#[derive(Clone, Copy, Debug, PartialEq, Eq)]
+pub struct Map {
+    number: u32,
+}
+
+/// A memory of maps from the keys below a limit to numbers. A map that was made stays as it is; one made from another shares with it what they have in common.
+///
+/// A map is a binary tree, with a level for each bit of the largest key. A node takes 12 bytes.
+#[derive(Drop)]
+pub struct SharedMaps {
+    keys: u32,
+    height: u32,
+    nodes: Items<Node>,
+}
+
+impl Model for SharedMaps {
+    ghost use Rattle.shared_maps.specs.Trees.{Memory, IsMemory};
+
+    ghost Value = { Memory };
+
+    ghost view = { λ m. record { keys = m.keys; height = m.height; nodes = m.nodes } };
+
+    ghost invariant = { λ m. IsMemory m.keys m.height m.nodes };
+}
+
+impl SharedMaps {
+    /// A memory of maps of the keys below `keys`. It has the empty map alone.
+    pub fn new(alloc: Global, keys: u32) -> Result<SharedMaps, NoMemory>
+        ensures { IfOk result (λ m. m.keys ≡ keys) }
+    {
+        Ok(SharedMaps {
+            keys,
+            height: height_for(keys),
+            nodes: Items::one(alloc, Node::Nothing)?,
+        })
+    }
+
+    /// The map with no keys. Takes no memory.
+    pub fn empty(&self) -> Map
+        ensures map { IsMap self.now result }
+        ensures none { (k : ℕ) → value_in self.now result k ≡ None }
+    {
+        // What is true of every memory is known once a field is read.
+        let _nodes = &self.nodes;
+        Map { number: 0 }
+    }
+
+    /// The value of a key. Takes no memory, and looks at one node more than the largest key has bits, at most. A key that is not below the limit has no value, and neither has any key of a number of no map of this memory.
+    pub fn get(&self, map: Map, key: u32) -> Option<u32>
+        ensures { result ≡ value_in self.now map key }
+    {
+        if key < self.keys {
+            found(self.nodes.as_slice(), self.height, map.number, key)
+        } else {
+            None
+        }
+    }
+
+    /// The map with one key at another value, or without that key. Adds and looks at one node more than the largest key has bits, at most.
+    ///
+    /// A key that is not below the limit changes nothing, and a number of no map of this memory counts as the empty map. `NoMemory` also where the memory would have more than 2^32 nodes.
+    pub fn put(&mut self, map: Map, key: u32, value: Option<u32>) -> Result<Map, NoMemory>
+        ensures map { IfOk result (IsMap self.new) }
+        ensures value { IfOk result (λ r. (k : ℕ) → k < self.old.keys → value_in self.new r k ≡ (if k == key then value else value_in self.old map k)) }
+        ensures kept { KeepsMaps self.old self.new }
+    {
+        if key < self.keys {
+            let number = with_value(&mut self.nodes, self.height, map.number, key, value)?;
+            Ok(Map { number })
+        } else if (map.number as usize) < self.nodes.len() {
+            Ok(map)
+        } else {
+            Ok(Map { number: 0 })
+        }
+    }
+
+    /// The keys of a map with their values, by key. Looks at two nodes for each bit of the largest key and each entry, at most, and at one more.
+    pub fn entries(&self, alloc: Global, map: Map) -> Result<Vec<(u32, u32)>, NoMemory>
+        ensures { IfOk result (λ v. AreEntries (value_in self.now map) v.items) }
+    {
+        let mut entries = Vec::new(alloc);
+        add_entries(
+            self.nodes.as_slice(),
+            self.keys,
+            self.height,
+            map.number,
+            0,
+            &mut entries,
+        )?;
+        Ok(entries)
+    }
+}
