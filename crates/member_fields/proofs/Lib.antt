@@ -1,0 +1,9 @@
+pub mod Adding
+pub mod Heights
+pub mod Lists
+pub mod Meanings
+pub mod Members
+pub mod Owners
+pub mod Steps
+pub mod Turns
+pub mod Ends

@@ -1,0 +1,5 @@
+pub mod Built
+pub mod Fields
+pub mod Own
+pub mod Sums
+pub mod Values
