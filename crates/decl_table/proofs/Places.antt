@@ -30,6 +30,10 @@ to_front [] (suc n) k x h e = e
 to_front (y ∷ xs) (suc n) zero x h e = e
 to_front (y ∷ xs) (suc n) (suc k) x h e = to_front xs n k x (omega arith) e
 
+-- `get_front`, under the name that crates above cite
+pub left : {X : Type 0} (xs ys : List X) (k : ℕ) (x : X) → slice_get xs k ≡ Some x → slice_get (xs ++ ys) k ≡ Some x
+left xs ys k x e = get_front xs ys k x e
+
 pub front_more : {X : Type 0} (xs : List X) (n : ℕ) (x : X) → slice_get xs n ≡ Some x → take (n + 1) xs ≡ take n xs ++ x ∷ []
 front_more xs n x e = take_more xs n x (slice_get_within xs n x e) ∙ ap (λ y. take n xs ++ y ∷ []) (get_or_from_slice_get xs n x x e)
 
