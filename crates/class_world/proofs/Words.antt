@@ -2,9 +2,9 @@
 use Rattle.std.proofs.Common.{◌≡◌, ℕ, ◌+◌, ◌*◌, ◌/◌, ◌%◌, ◌<◌, zero, suc, true, List, [], ◌∷◌, Some, None, ◌⊎◌, ◌↔◌, inl, inr, refl, sym, ap, ◌∙◌, ◌++◌, subst, length, nat_eq, bit_or, bit_and, w64, arith}
 use Rattle.std.proofs.lemmas.Bool.{eq-eqb}
 use Rattle.std.proofs.lemmas.Grind.{common_steps}
-use Rattle.std.specs.Prelude.{slice_get, slice_set, slice_index_or as get_or, ◌^◌, IsTrue, max, min, replicate, take, drop}
+use Rattle.std.specs.Prelude.{slice_get, slice_set, slice_index_or as get_or, ◌^◌, IsTrue, max, min, take, drop}
 use Rattle.std.specs.Int.{bit_at}
-use Rattle.std.proofs.lemmas.Nat.Bits.{bit_at_and, bit_at_or, bit_at-lt, bit_at-zero, bit_at_set_same, bit_at_set_other, shr_and_one}
+use Rattle.std.proofs.lemmas.Nat.Bits.{bit_at_and, bit_at_or, bit_at-lt, bit_at_set_same, bit_at_set_other, shr_and_one}
 use Rattle.std.proofs.lemmas.Option.{slice_get_read, slice_get_within}
 use Rattle.class_world.specs.Sound.{IsSet}
 use Rattle.class_world.specs.Merged.{Sets}
@@ -153,18 +153,6 @@ all_set old words P i before all h = (
 
 pub set_within : (words : List ℕ) (h : ℕ) → IsSet words h → h / 64 < length words
 set_within words h is = slice_get_within words (h / 64) is.0 is.1
-
--- words without a bit
-pub zeros_clear : (n : ℕ) (words : List ℕ) → words ≡ replicate n 0 → (g : ℕ) → IsSet words g → ⊥
-zeros_clear n words made g is = none n (g / 64) is.0 (ap (λ ws. slice_get ws (g / 64)) (sym made) ∙ is.1) is.2
-  where
-    none : (n k word : ℕ) → slice_get (replicate n 0) k ≡ Some word → bit_at word (g % 64) ≡ 1 → ⊥
-    none zero k word e one = cc e
-    none (suc n) zero word e one =
-        let zero_is : 0 ≡ word = cc e in
-        let bit : bit_at 0 (g % 64) ≡ 1 = subst (λ m. bit_at m (g % 64) ≡ 1) (sym zero_is) one in
-        absurd (omega (arith, bit, bit_at-zero (g % 64)))
-    none (suc n) (suc k) word e one = none n k word e one
 
 -- a bit that is read
 

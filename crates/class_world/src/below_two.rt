@@ -43,8 +43,7 @@ pub(crate) fn first_doubled(alloc: Global, w: &World) -> Result<Option<u32>, NoM
 
 /// For each class whether it is generic or below a generic one.
 fn base_flags(alloc: Global, w: &World) -> Result<Vec<bool>, NoMemory>
-    requires supers { HaveClassSupers w.now }
-    requires few { length w.now.types < 2 ^ 32 }
+    requires { HaveClassSupers w.now }
     ensures { IfOk result (λ v. FlagBases w.now v.items) }
 {
     let graph = super_graph(alloc, w)?;
