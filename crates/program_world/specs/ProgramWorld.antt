@@ -68,11 +68,21 @@ implied_super true xs = []
 abbrev pub supers_of : Place → TypeDecl → List JavaType
 supers_of p d = implied_super d.interface d.extends ++ filter is_super (map (read p) (written_supers d))
 
+-- ---- types of members
+
+-- so many array levels around a type; the null type where an argument within it is no reference type (JLS 4.5.1; the grammar has no such type), or it is the null type
+abbrev pub leveled : ℕ → JavaType → JavaType
+leveled d t = if (argument t).whole then arrays d t else ty.Null
+
+-- The type that a member declares: the one that a written type says, with so many array levels more. It is always a type of the world.
+abbrev pub member_type : Place → ℕ → TypeExpr → JavaType
+member_type p d x = leveled d (read p x)
+
 -- ---- methods and constructors
 
 -- Brackets behind a parameter's name are array levels of its type (JLS 8.4.1).
 abbrev pub param_type : Place → Param → JavaType
-param_type p q = arrays q.dims (read p q.ty)
+param_type p q = member_type p q.dims q.ty
 
 -- a method or constructor of the type of number c
 abbrev pub method_info : Place → ℕ → MethodDecl → MethodInfo
@@ -82,8 +92,8 @@ method_info p c m = record {
   constructor = m.constructor;
   mods = m.mods;
   params = map (param_type p) m.params;
-  result = option_map (read p) m.result;
-  throws = map (read p) m.throws;
+  result = option_map (member_type p 0) m.result;
+  throws = map (member_type p 0) m.throws;
   node = Some m.node.id;
 }
 
@@ -117,7 +127,7 @@ methods_of p c d = map (method_info p c) (own_methods d.members) ++ (if lacks_co
 
 -- A variable of a field declaration is a field (JLS 8.3). Brackets behind its name are array levels of its type.
 abbrev pub field_info : Place → ℕ → List Mod → TypeExpr → Var → FieldInfo
-field_info p c ms x v = record { owner = c; name = v.name; mods = ms; ty = arrays v.dims (read p x); node = Some v.node.id }
+field_info p c ms x v = record { owner = c; name = v.name; mods = ms; ty = member_type p v.dims x; node = Some v.node.id }
 
 abbrev pub own_fields : List Member → List FieldDecl
 own_fields [] = []

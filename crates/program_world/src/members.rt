@@ -8,7 +8,7 @@ ghost use Rattle.written_types.specs.Places.{Place, IsPlace};
 ghost use Rattle.program_world.specs.ProgramWorld as spec;
 ghost use Rattle.program_world.specs.Steps as step;
 
-use crate::written::{arrays, param_types, read, read_all, read_result};
+use crate::written::{member_type, param_types, read_result, read_thrown};
 use class_world::{FieldInfo, MethodInfo};
 use java_tree::tree::{Member, Mod, TypeDecl};
 use java_tree::{Items, NoMemory};
@@ -64,7 +64,7 @@ fn push_method(
         mods: Items::from_slice(alloc, mods.as_slice())?,
         params: param_types(alloc, scope, params.as_slice())?,
         result: read_result(alloc, scope, written)?,
-        throws: read_all(alloc, scope, throws.as_slice())?,
+        throws: read_thrown(alloc, scope, throws.as_slice())?,
         node: Some(node.id),
     })?;
     Ok(())
@@ -162,7 +162,7 @@ fn push_variables(
             owner,
             name: var.name,
             mods: Items::from_slice(alloc, mods.as_slice())?,
-            ty: arrays(alloc, read(alloc, scope, ty)?, var.dims)?,
+            ty: member_type(alloc, scope, ty, var.dims)?,
             node: Some(var.node.id),
         })?;
     }

@@ -22,7 +22,7 @@ use type_headers::header;
 use type_names::TypeNames;
 use written_types::Scope;
 
-/// The world of a program, by the table of its names and the headers of its types: the built-in types and then the declared ones in order, each with its supertypes, methods and fields (JLS 8.1, 8.3, 8.4, 8.8 and 9.1). Its `walk` and its `above` are empty. A written type that says none (DR1) stands as the null type. Takes time for the source and for the world. `NoMemory` also where there are 2^32 types, methods, fields or files.
+/// The world of a program, by the table of its names and the headers of its types: the built-in types and then the declared ones in order, each with its supertypes, methods and fields (JLS 8.1, 8.3, 8.4, 8.8 and 9.1). Its `walk` and its `above` are empty. A written type that says none (DR1), or has an argument that is no reference type, stands as the null type. Takes time for the source and for the world. `NoMemory` also where there are 2^32 types, methods, fields or files.
 pub fn declared_world(
     alloc: Global,
     built: BuiltIns,

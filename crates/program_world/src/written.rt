@@ -15,10 +15,26 @@ use std::alloc::Global;
 use written_types::{Scope, read_type};
 
 /// The type that a written type says, the null type where it says none.
-pub(crate) fn read(alloc: Global, scope: &Scope<'_>, x: &TypeExpr) -> Result<JavaType, NoMemory>
+fn read(alloc: Global, scope: &Scope<'_>, x: &TypeExpr) -> Result<JavaType, NoMemory>
     ensures { (p : Place) → IsPlace scope.now p → IfOk result (λ ty. ty ≡ spec.read p (type_plain x.now)) }
 {
     Ok(read_type(alloc, scope, x)?.unwrap_or(JavaType::Null))
+}
+
+/// The type that a member declares, by the written type and the array levels behind the member's name. It is always a type of the world: the null type where an argument within it is no reference type (JLS 4.5.1), as in no tree of the grammar.
+pub(crate) fn member_type(
+    alloc: Global,
+    scope: &Scope<'_>,
+    x: &TypeExpr,
+    levels: u32,
+) -> Result<JavaType, NoMemory>
+    ensures { (p : Place) → IsPlace scope.now p → IfOk result (λ ty. ty ≡ spec.member_type p levels (type_plain x.now)) }
+{
+    let ty = read(alloc, scope, x)?;
+    if !is_whole(&ty) {
+        return Ok(JavaType::Null);
+    }
+    arrays(alloc, ty, levels)
 }
 
 pub(crate) fn read_result(
@@ -26,24 +42,24 @@ pub(crate) fn read_result(
     scope: &Scope<'_>,
     written: &Option<TypeExpr>,
 ) -> Result<Option<JavaType>, NoMemory>
-    ensures { (p : Place) → IsPlace scope.now p → IfOk result (λ r. r ≡ option_map (spec.read p) (option_map type_plain written.now)) }
+    ensures { (p : Place) → IsPlace scope.now p → IfOk result (λ r. r ≡ option_map (spec.member_type p 0) (option_map type_plain written.now)) }
 {
     match written {
-        Some(x) => Ok(Some(read(alloc, scope, x)?)),
+        Some(x) => Ok(Some(member_type(alloc, scope, x, 0)?)),
         None => Ok(None),
     }
 }
 
-pub(crate) fn read_all(
+pub(crate) fn read_thrown(
     alloc: Global,
     scope: &Scope<'_>,
     xs: &[TypeExpr],
 ) -> Result<Items<JavaType>, NoMemory>
-    ensures { (p : Place) → IsPlace scope.now p → IfOk result (λ tys. tys ≡ map (spec.read p) (map type_plain xs.now)) }
+    ensures { (p : Place) → IsPlace scope.now p → IfOk result (λ tys. tys ≡ map (spec.member_type p 0) (map type_plain xs.now)) }
 {
     let mut tys = Items::new(alloc);
     for x in xs {
-        tys.push(read(alloc, scope, x)?)?;
+        tys.push(member_type(alloc, scope, x, 0)?)?;
     }
     Ok(tys)
 }
@@ -57,13 +73,13 @@ pub(crate) fn param_types(
 {
     let mut tys = Items::new(alloc);
     for param in params {
-        tys.push(arrays(alloc, read(alloc, scope, &param.ty)?, param.dims)?)?;
+        tys.push(member_type(alloc, scope, &param.ty, param.dims)?)?;
     }
     Ok(tys)
 }
 
 /// So many array levels around a type.
-pub(crate) fn arrays(alloc: Global, ty: JavaType, levels: u32) -> Result<JavaType, NoMemory>
+fn arrays(alloc: Global, ty: JavaType, levels: u32) -> Result<JavaType, NoMemory>
     ensures { IfOk result (λ array. array ≡ types.arrays levels ty) }
 {
     let mut array = ty;
