@@ -1,6 +1,7 @@
 pub mod Types
 pub mod Subtypes
 pub mod Sound
+pub mod Typed
 pub mod Merged
 pub mod Climbs
 pub mod Graphs

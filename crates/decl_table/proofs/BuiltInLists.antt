@@ -39,7 +39,7 @@ abbrev has_super : Option ℕ → Bool
 has_super None = false
 has_super (Some p) = nat_lt p 16
 
-all_at : {A : Type 0} (test : A → Bool) (xs : List A) (j : ℕ) (x : A) → list_all test xs ≡ true → slice_get xs j ≡ Some x → test x ≡ true
+pub all_at : {A : Type 0} (test : A → Bool) (xs : List A) (j : ℕ) (x : A) → list_all test xs ≡ true → slice_get xs j ≡ Some x → test x ≡ true
 all_at test [] j x all e = absurd (cc e)
 all_at test (y ∷ ys) zero x all e = let same : y ≡ x = cc e in ap test (sym same) ∙ first (test y) (list_all test ys) all
   where

@@ -33,6 +33,7 @@ use Rattle.decl_table.specs.Judged.{IsJudged, IsDeclared, IsEarly, IsTabled, nam
 use Rattle.decl_table.proofs.Fitting.{made}
 use Rattle.decl_table.proofs.Orders.{supers_in_order}
 use Rattle.decl_table.proofs.Rises.{none_rises}
+use Rattle.decl_table.proofs.Typed.{typed_world}
 
 -- ---- how many types there are
 
@@ -135,6 +136,7 @@ declared_judged names p j b ts r same types methods fields is early h = all r h
       methods = early.2;
       declared = moved (λ c i. IsNone (DeclarationSet c i (files p))) h.0;
       sound = h.1;
+      typed = typed_world p.words (java p) (files p) w (moved (λ c i. SameBut (world_of c i (files p)) w) h.2);
       same = moved (λ c i. SameBut (world_of c i (files p)) w) h.2;
     }
     all (Ok (judged.Refused x)) h = inr (scope, early.1, early.2, moved (λ c i. IsFirstOf family.DR (DeclarationSet c i (files p)) x) h)

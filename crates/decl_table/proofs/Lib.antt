@@ -19,4 +19,5 @@ pub mod Meanings
 pub mod Lows
 pub mod Clashing
 pub mod Rises
+pub mod Typed
 pub mod Judging

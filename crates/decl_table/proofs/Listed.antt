@@ -1,6 +1,10 @@
 -- Elements of lists that are put together.
-use Rattle.std.proofs.Common.{◌≡◌, ℕ, zero, suc, ◌+◌, Bool, true, false, List, [], ◌∷◌, ◌++◌, map, length, Some, ◌⊎◌, inl, inr, refl, sym, ap, ◌∙◌, subst, arith}
-use Rattle.std.specs.Prelude.{slice_get, filter, if◌then◌else◌, Contains}
+use Rattle.std.proofs.Common.{◌≡◌, ℕ, zero, suc, ◌+◌, Bool, true, false, List, [], ◌∷◌, ◌++◌, map, length, Option, Some, None, ◌⊎◌, inl, inr, refl, sym, ap, ◌∙◌, subst, arith}
+use Rattle.std.specs.Prelude.{slice_get, flat_map, filter, if◌then◌else◌, Contains}
+use Rattle.std.specs.Option.{option_map}
+
+pub none_there : {A : Type 0} (k : ℕ) (y : A) → slice_get [] k ≡ Some y → ⊥
+none_there k y e = cc e
 
 -- an element of two lists: of the first, or of the second behind it
 pub get_either : {A : Type 0} (xs ys : List A) (c : ℕ) (y : A) → slice_get (xs ++ ys) c ≡ Some y → (slice_get xs c ≡ Some y) ⊎ ((k : ℕ) × (c ≡ length xs + k) × (slice_get ys k ≡ Some y))
@@ -21,6 +25,15 @@ pub get_mapped : {A B : Type 0} (f : A → B) (xs : List A) (k : ℕ) (y : B) �
 get_mapped f [] k y e = absurd (cc e)
 get_mapped f (x ∷ xs) zero y e = (x, refl, cc e)
 get_mapped f (x ∷ xs) (suc k) y e = get_mapped f xs k y e
+
+pub get_flat : {A B : Type 0} (f : A → List B) (xs : List A) (k : ℕ) (y : B) → slice_get (flat_map f xs) k ≡ Some y → (x : A) × (i : ℕ) × (slice_get (f x) i ≡ Some y)
+get_flat f [] k y e = absurd (cc e)
+get_flat f (x ∷ xs) k y e = elim (get_either (f x) (flat_map f xs) k y e) [ inl h ↦ (x, k, h) | inr h ↦ get_flat f xs h.0 y h.2 ]
+
+-- what an option holds that a function was put on
+pub map_some : {A B : Type 0} (f : A → B) (o : Option A) (y : B) → option_map f o ≡ Some y → (x : A) × (o ≡ Some x) × (f x ≡ y)
+map_some f None y e = absurd (cc e)
+map_some f (Some x) y e = (x, refl, cc e)
 
 -- an element that passed a filter
 pub get_filtered : {A : Type 0} (q : A → Bool) (xs : List A) (k : ℕ) (y : A) → slice_get (filter q xs) k ≡ Some y → (i : ℕ) × (slice_get xs i ≡ Some y) × (q y ≡ true)

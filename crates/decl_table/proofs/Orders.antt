@@ -1,7 +1,6 @@
 -- Where no supertype is wrong, the supertypes that the world declares are in order.
 use Rattle.std.proofs.Common.{◌≡◌, ℕ, zero, suc, ◌<◌, Bool, true, false, List, [], ◌∷◌, length, Option, Some, None, inl, inr, refl, sym, ap, ◌∙◌, subst, arith}
 use Rattle.std.specs.Prelude.{slice_get, if◌then◌else◌}
-use Rattle.std.specs.Option.{option_map}
 use Rattle.std.proofs.lemmas.Option.{slice_get_within}
 use Rattle.java_tree.specs.declared.tree.Name.{Name}
 use Rattle.java_tree.specs.declared.tree.Head.{Head}
@@ -31,7 +30,7 @@ use Rattle.program_world.specs.ProgramWorld.{argument, is_class, place_among, wo
 use Rattle.decl_table.specs.Bases.{AreBases, IsBase}
 use Rattle.decl_table.proofs.Wholes.{said_parts, joined_parts, over_class, type_over}
 use Rattle.decl_table.proofs.Fitting.{place_fits, get_there}
-use Rattle.decl_table.proofs.Listed.{get_front, contains_at}
+use Rattle.decl_table.proofs.Listed.{get_front, contains_at, map_some}
 use Rattle.decl_table.proofs.Supers.{IsInfoOf, type_at, same_params, IsWrittenSuper, super_at}
 use Rattle.decl_table.proofs.Facts.{both, one_there}
 
@@ -74,10 +73,6 @@ class_written p (t.Written node h s ys d) g xs e =
     (named.0, λ none. none_written p ys (parts.2 ∙ ap Some (named.1 ∙ none)))
 
 -- ---- supertypes in order
-
-map_some : {A B : Type 0} (f : A → B) (o : Option A) (y : B) → option_map f o ≡ Some y → (x : A) × (o ≡ Some x) × (f x ≡ y)
-map_some f None y e = absurd (cc e)
-map_some f (Some x) y e = (x, refl, cc e)
 
 -- a written supertype is a class type over the type parameters of its class
 pub written_over : (built : BuiltIns) (j : JavaNames) (fs : List File) → AreBases built.types → (x : Declaration) (s : JavaType) → IsWrittenSuper (place_among built j fs x) x.decl s

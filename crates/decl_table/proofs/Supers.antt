@@ -28,7 +28,7 @@ info_at at [] c m n k info e = absurd (cc e)
 info_at at (x ∷ xs) c m n zero info e = (x, refl, (c, m, n, sym (cc e)))
 info_at at (x ∷ xs) c m n (suc k) info e = info_at at xs (c + 1) (m + length (methods_of (at x) c x.decl)) (n + length (fields_of (at x) c x.decl)) k info e
 
-info_for : (at : Declaration → Place) (xs : List Declaration) (c m n : ℕ) (k : ℕ) (x : Declaration) → slice_get xs k ≡ Some x
+pub info_for : (at : Declaration → Place) (xs : List Declaration) (c m n : ℕ) (k : ℕ) (x : Declaration) → slice_get xs k ≡ Some x
     → (info : TypeInfo) × (slice_get (infos_from at c m n xs) k ≡ Some info) × IsInfoOf at x info
 info_for at [] c m n k x e = absurd (cc e)
 info_for at (y ∷ xs) c m n zero x e = let same : y ≡ x = cc e in (type_info (at y) c m n y, refl, (c, m, n, ap (λ z. type_info (at z) c m n z) same))

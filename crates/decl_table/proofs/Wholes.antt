@@ -93,7 +93,7 @@ whole_inside : (d : ℕ) (z : JavaType) → IsWhole (arrays d z) → IsWhole z
 whole_inside zero z h = h
 whole_inside (suc d) z h = whole_inside d z (array_whole (arrays d z) h)
 
-arrays_over : (w : World) (n : ℕ) (d : ℕ) (z : JavaType) → IsTypeOver w n z → no_null z → IsTypeOver w n (arrays d z) × no_null (arrays d z)
+pub arrays_over : (w : World) (n : ℕ) (d : ℕ) (z : JavaType) → IsTypeOver w n z → no_null z → IsTypeOver w n (arrays d z) × no_null (arrays d z)
 arrays_over w n zero z over not = (over, not)
 arrays_over w n (suc d) z over not = let inside = arrays_over w n d z over not in (an_array inside.1 inside.0, λ e. cc (array_kind (arrays d z), null_kind, e))
 

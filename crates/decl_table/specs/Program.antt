@@ -19,6 +19,7 @@ use Rattle.class_world.specs.declared.world.TypeInfo.{TypeInfo}
 use Rattle.class_world.specs.declared.world.MethodInfo.{MethodInfo}
 use Rattle.class_world.specs.Ordered.{SameBut, IsFirstBelowTwo}
 use Rattle.class_world.specs.Sound.{IsSound}
+use Rattle.class_world.specs.Typed.{HaveTypes}
 use Rattle.built_in_types.specs.declared.words.Words.{Words}
 use Rattle.built_in_types.specs.declared.types.BuiltIns.{BuiltIns}
 use Rattle.built_in_types.specs.BuiltIns.{name_of, built_in_types, built_in_methods, built_in_fields}
@@ -148,11 +149,12 @@ IsRefusal names p b =
     IsEarlyRefusal (ScopeBreaches names p) (type_count p) (method_count p) b
     ⊎ (IsNone (ScopeBreaches names p) × (type_count p ≤ 4096) × (method_count p ≤ 65536) × IsFirstOf family.DR (DeclarationBreaches p) b)
 
--- No rule is broken, and the world is the program's, with the table of its order.
+-- No rule is broken, and the world is the program's, with the table of its order. Its members are made of its types.
 pub record IsProgramWorld (names : List (List ℕ)) (p : Program) (w : World) : Type 0 where
   pub scope : IsNone (ScopeBreaches names p)
   pub types : type_count p ≤ 4096
   pub methods : method_count p ≤ 65536
   pub declared : IsNone (DeclarationBreaches p)
   pub sound : IsSound w
+  pub typed : HaveTypes w
   pub same : SameBut (world p) w
