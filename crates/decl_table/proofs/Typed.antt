@@ -1,7 +1,9 @@
 -- What the members of the world declare is made of its types.
-use Rattle.std.proofs.Common.{◌≡◌, ℕ, zero, suc, ◌+◌, ◌<◌, Bool, true, false, List, [], ◌∷◌, map, length, Option, Some, None, ◌⊎◌, inl, inr, refl, sym, ap, ◌∙◌, subst, arith}
-use Rattle.std.specs.Prelude.{slice_get, if◌then◌else◌, nat_lt, unwrap_or, ⊤}
+use Rattle.std.proofs.Common.{◌≡◌, ℕ, zero, suc, ◌+◌, ◌<◌, Bool, true, false, List, [], ◌∷◌, ◌++◌, map, length, Option, Some, None, ◌⊎◌, inl, inr, refl, sym, ap, ◌∙◌, subst, arith}
+use Rattle.std.specs.Prelude.{slice_get, if◌then◌else◌, nat_lt, unwrap_or, flat_map}
+use Rattle.std.specs.Option.{option_map}
 use Rattle.std.proofs.lemmas.Bool.Decides.{nat_tests}
+use Rattle.std.proofs.lemmas.Option.{slice_get-map}
 use Rattle.java_tree.specs.declared.tree.Primitive.TheVariants as prim
 use Rattle.java_tree.specs.Plain.{TypeExpr, FieldDecl, MethodDecl, TypeDecl}
 use Rattle.class_world.specs.declared.world.World.{World}
@@ -117,155 +119,95 @@ field_from at c (x ∷ xs) m info e =
 
 -- ---- built-in members
 
--- what lists of types and methods declare is over n type variables, one by one
-
-abbrev EachOver : World → ℕ → List JavaType → Type 0
-EachOver w n [] = ⊤
-EachOver w n (t ∷ ts) = IsTypeOver w n t × EachOver w n ts
-
-abbrev ResultOver : World → ℕ → Option JavaType → Type 0
-ResultOver w n None = ⊤
-ResultOver w n (Some t) = IsTypeOver w n t
-
-abbrev EachMethodOver : World → ℕ → List MethodInfo → Type 0
-EachMethodOver w n [] = ⊤
-EachMethodOver w n (info ∷ infos) = (EachOver w n info.params × ResultOver w n info.result × (info.throws ≡ [])) × EachMethodOver w n infos
-
-each_over : (w : World) (n : ℕ) (ts : List JavaType) → EachOver w n ts → (k : ℕ) (t : JavaType) → slice_get ts k ≡ Some t → IsTypeOver w n t
-each_over w n [] h k t e = absurd (none_there k t e)
-each_over w n (x ∷ xs) h zero t e = let same : x ≡ t = cc e in subst (IsTypeOver w n) same h.0
-each_over w n (x ∷ xs) h (suc k) t e = each_over w n xs h.1 k t e
-
-result_over : (w : World) (n : ℕ) (o : Option JavaType) → ResultOver w n o → (t : JavaType) → o ≡ Some t → IsTypeOver w n t
-result_over w n None h t e = absurd (cc e)
-result_over w n (Some x) h t e = let same : x ≡ t = cc e in subst (IsTypeOver w n) same h
-
-method_over : (w : World) (n : ℕ) (infos : List MethodInfo) → EachMethodOver w n infos → (m : ℕ) (info : MethodInfo) → slice_get infos m ≡ Some info → AreOver w n info
-method_over w n [] h m info e = absurd (none_there m info e)
-method_over w n (x ∷ xs) h zero info e =
-    let same : x ≡ info = cc e in
-    let here = h.0 in
-    subst (AreOver w n) same (record {
-      params = each_over w n x.params here.0;
-      result = result_over w n x.result here.1;
-      throws = λ k t at. absurd (none_there k t (ap (λ ts. slice_get ts k) (sym here.2) ∙ at));
-    })
-method_over w n (x ∷ xs) h (suc m) info e = method_over w n xs h.1 m info e
-
 bare_over : (w : World) (n c : ℕ) → IsKnown w c → IsTypeOver w n (ty.Class c [])
 bare_over w n c known = a_class known.1 (inl refl) (λ k a e. absurd (none_there k a e)) (λ k a e. absurd (none_there k a e))
 
-throwables_over : (words : Words) (w : World) (n : ℕ) → IsTypeOver w n (ty.Class 1 []) → (ks : List ℕ) → EachMethodOver w n (map (base.method_info words) (base.throwables ks))
-throwables_over words w n text [] = tt
-throwables_over words w n text (k ∷ ks) = ((tt, tt, refl), (((text, tt), tt, refl), throwables_over words w n text ks))
+-- a type over n type variables
+abbrev Over : World → ℕ → Type 0
+Over w n = (t : JavaType) × IsTypeOver w n t
 
--- in the order of the table
-table_over : (words : Words) (w : World) (n : ℕ) → ((c : ℕ) → c < 16 → IsKnown w c) → EachMethodOver w n (base.built_in_methods words)
-table_over words w n known =
-    let object = bare_over w n 0 (known 0 (omega arith)) in
-    let text = bare_over w n 1 (known 1 (omega arith)) in
-    let boolean : IsTypeOver w n (ty.Prim prim.Boolean) = a_primitive prim.Boolean in
-    let char : IsTypeOver w n (ty.Prim prim.Char) = a_primitive prim.Char in
-    let int : IsTypeOver w n (ty.Prim prim.Int) = a_primitive prim.Int in
-    let long : IsTypeOver w n (ty.Prim prim.Long) = a_primitive prim.Long in
-    let chars : IsTypeOver w n (ty.Array (ty.Prim prim.Char)) = an_array (λ e. cc (primitive_kind prim.Char, null_kind, e)) char in (
-      (tt, tt, refl),
-      (
-        (tt, text, refl),
-        (
-          ((object, tt), boolean, refl),
-          (
-            (tt, int, refl),
-            (
-              (tt, int, refl),
-              (
-                ((int, tt), char, refl),
-                (
-                  ((int, tt), text, refl),
-                  (
-                    ((int, (int, tt)), text, refl),
-                    (
-                      ((text, tt), int, refl),
-                      (
-                        ((object, tt), boolean, refl),
-                        (
-                          (tt, int, refl),
-                          (
-                            (tt, text, refl),
-                            (
-                              ((boolean, tt), tt, refl),
-                              (
-                                ((char, tt), tt, refl),
-                                (
-                                  ((int, tt), tt, refl),
-                                  (
-                                    ((long, tt), tt, refl),
-                                    (
-                                      ((chars, tt), tt, refl),
-                                      (
-                                        ((text, tt), tt, refl),
-                                        (
-                                          ((object, tt), tt, refl),
-                                          (
-                                            ((boolean, tt), tt, refl),
-                                            (
-                                              ((char, tt), tt, refl),
-                                              (
-                                                ((int, tt), tt, refl),
-                                                (
-                                                  ((long, tt), tt, refl),
-                                                  (
-                                                    ((chars, tt), tt, refl),
-                                                    (
-                                                      ((text, tt), tt, refl),
-                                                      (
-                                                        ((object, tt), tt, refl),
-                                                        (
-                                                          (tt, tt, refl),
-                                                          (
-                                                            (tt, tt, refl),
-                                                            (
-                                                              ((text, tt), tt, refl),
-                                                              (
-                                                                (tt, text, refl),
-                                                                ((tt, text, refl), throwables_over words w n text (5 ∷ 6 ∷ 7 ∷ 8 ∷ 9 ∷ 10 ∷ 11 ∷ 12 ∷ 13 ∷ 14 ∷ 15 ∷ [])),
-                                                              ),
-                                                            ),
-                                                          ),
-                                                        ),
-                                                      ),
-                                                    ),
-                                                  ),
-                                                ),
-                                              ),
-                                            ),
-                                          ),
-                                        ),
-                                      ),
-                                    ),
-                                  ),
-                                ),
-                              ),
-                            ),
-                          ),
-                        ),
-                      ),
-                    ),
-                  ),
-                ),
-              ),
-            ),
-          ),
-        ),
-      ),
-    )
+abbrev type_in : (w : World) (n : ℕ) → Over w n → JavaType
+type_in w n o = o.0
+
+-- parameter types, result and thrown types
+abbrev Signature : Type 0
+Signature = List JavaType × Option JavaType × List JavaType
+
+abbrev signature_of : MethodInfo → Signature
+signature_of info = (info.params, info.result, info.throws)
+
+-- parameter types and result of a method that throws nothing
+abbrev Parts : World → ℕ → Type 0
+Parts w n = List (Over w n) × Option (Over w n)
+
+abbrev signature_in : (w : World) (n : ℕ) → Parts w n → Signature
+signature_in w n x = (map (type_in w n) x.0, option_map (type_in w n) x.1, [])
+
+parts_over : (w : World) (n : ℕ) (x : Parts w n) (info : MethodInfo) → signature_in w n x ≡ signature_of info → AreOver w n info
+parts_over w n x info same = record {
+  params = λ k t e. let o = get_mapped (type_in w n) x.0 k t (ap (λ (s : Signature). slice_get s.0 k) same ∙ e) in over o.0 t o.2;
+  result = λ t e. let o = map_some (type_in w n) x.1 t (ap (λ (s : Signature). s.1) same ∙ e) in over o.0 t o.2;
+  throws = λ k t e. absurd (none_there k t (ap (λ (s : Signature). slice_get s.2 k) same ∙ e));
+}
+  where
+    over : (o : Over w n) (t : JavaType) → type_in w n o ≡ t → IsTypeOver w n t
+    over o t is = subst (IsTypeOver w n) is o.1
+
+-- the signatures of the built-in methods in the order of their table
+abbrev built_in_parts : (w : World) (n : ℕ) → ((c : ℕ) → c < 16 → IsKnown w c) → List (Parts w n)
+built_in_parts w n known =
+    ([], None) ∷ ([], Some text) ∷ (object ∷ [], Some boolean) ∷ ([], Some int)
+    ∷ ([], Some int) ∷ (int ∷ [], Some char) ∷ (int ∷ [], Some text)
+    ∷ (int ∷ int ∷ [], Some text) ∷ (text ∷ [], Some int) ∷ (object ∷ [], Some boolean)
+    ∷ ([], Some int) ∷ ([], Some text)
+    ∷ (prints ++ prints ++ ([], None) ∷ throwables (4 ∷ []) ++ ([], Some text)
+    ∷ ([], Some text) ∷ throwables (5 ∷ 6 ∷ 7 ∷ 8 ∷ 9 ∷ 10 ∷ 11 ∷ 12 ∷ 13 ∷ 14 ∷ 15 ∷ []))
+  where
+    object : Over w n
+    object = (ty.Class 0 [], bare_over w n 0 (known 0 (omega arith)))
+
+    text : Over w n
+    text = (ty.Class 1 [], bare_over w n 1 (known 1 (omega arith)))
+
+    boolean : Over w n
+    boolean = (ty.Prim prim.Boolean, a_primitive prim.Boolean)
+
+    char : Over w n
+    char = (ty.Prim prim.Char, a_primitive prim.Char)
+
+    int : Over w n
+    int = (ty.Prim prim.Int, a_primitive prim.Int)
+
+    long : Over w n
+    long = (ty.Prim prim.Long, a_primitive prim.Long)
+
+    chars : Over w n
+    chars = (ty.Array (ty.Prim prim.Char), an_array (λ e. cc (primitive_kind prim.Char, null_kind, e)) (a_primitive prim.Char))
+
+    prints : List (Parts w n)
+    prints = map (λ (o : Over w n). (o ∷ [], None)) (boolean ∷ char ∷ int ∷ long ∷ chars ∷ text ∷ object ∷ [])
+
+    throwables : List ℕ → List (Parts w n)
+    throwables = flat_map (λ (k : ℕ). ([], None) ∷ (text ∷ [], None) ∷ [])
+
+built_in_signatures : (words : Words) (w : World) (n : ℕ) (known : (c : ℕ) → c < 16 → IsKnown w c)
+    → map (signature_in w n) (built_in_parts w n known) ≡ map signature_of (base.built_in_methods words)
+built_in_signatures words w n known = refl
+
+table_over : (words : Words) (w : World) (n : ℕ) → ((c : ℕ) → c < 16 → IsKnown w c) → (m : ℕ) (info : MethodInfo) → slice_get (base.built_in_methods words) m ≡ Some info
+    → AreOver w n info
+table_over words w n known m info e =
+    let there : slice_get (map (signature_in w n) (built_in_parts w n known)) m ≡ Some (signature_of info) =
+    ap (λ ss. slice_get ss m) (built_in_signatures words w n known) ∙ slice_get-map signature_of (base.built_in_methods words) m ∙ ap (option_map signature_of) e in
+    let x = get_mapped (signature_in w n) (built_in_parts w n known) m (signature_of info) there in
+    parts_over w n x.0 info x.2
 
 built_in_method : (words : Words) (w : World) → ((c : ℕ) → c < 16 → IsKnown w c) → (m : ℕ) (info : MethodInfo) → slice_get (base.built_in_methods words) m ≡ Some info
     → IsKnown w info.owner × ((n : ℕ) → AreOver w n info)
 built_in_method words w known m info e =
     let test : nat_lt info.owner 16 ≡ true = all_at (λ (i : MethodInfo). nat_lt i.owner 16) (base.built_in_methods words) m info refl e in
     let low : info.owner < 16 = grind (arith, nat_tests, test) in
-    (known info.owner low, λ n. method_over w n (base.built_in_methods words) (table_over words w n known) m info e)
+    (known info.owner low, λ n. table_over words w n known m info e)
 
 built_in_field : (words : Words) (w : World) → ((c : ℕ) → c < 16 → IsKnown w c) → (m : ℕ) (info : FieldInfo) → slice_get (base.built_in_fields words) m ≡ Some info
     → IsKnown w info.owner × ((n : ℕ) → IsTypeOver w n info.ty)
