@@ -7,8 +7,11 @@ use std::alloc::Global;
 use std::test::Fail;
 
 const A: u32 = 0;
+
 const B: u32 = 1;
+
 const C: u32 = 2;
+
 const I: u32 = 3;
 
 fn in_package(alloc: Global, package: Name, interface: bool) -> Result<TypeInfo, NoMemory> {
@@ -93,20 +96,44 @@ fn seen_from(w: &World, member: Declared) -> [bool; 4] {
 #[test]
 fn methods_are_seen_as_their_modifiers_say(rt: HostRuntime) -> Result<(), Fail> {
     let w = sample(rt.alloc())?;
-    assert_eq!(rt; seen_from(&w, Declared::Method(0)), [true, false, false, false]);
-    assert_eq!(rt; seen_from(&w, Declared::Method(1)), [true, true, false, false]);
-    assert_eq!(rt; seen_from(&w, Declared::Method(2)), [true, true, false, false]);
-    assert_eq!(rt; seen_from(&w, Declared::Method(3)), [true, true, true, true]);
-    assert_eq!(rt; seen_from(&w, Declared::Method(4)), [true, true, true, true]);
+    assert_eq!(rt;
+        seen_from(&w, Declared::Method(0)),
+        [true, false, false, false]
+    );
+    assert_eq!(rt;
+        seen_from(&w, Declared::Method(1)),
+        [true, true, false, false]
+    );
+    assert_eq!(rt;
+        seen_from(&w, Declared::Method(2)),
+        [true, true, false, false]
+    );
+    assert_eq!(rt;
+        seen_from(&w, Declared::Method(3)),
+        [true, true, true, true]
+    );
+    assert_eq!(rt;
+        seen_from(&w, Declared::Method(4)),
+        [true, true, true, true]
+    );
     Ok(())
 }
 
 #[test]
 fn fields_are_seen_as_their_modifiers_say(rt: HostRuntime) -> Result<(), Fail> {
     let w = sample(rt.alloc())?;
-    assert_eq!(rt; seen_from(&w, Declared::Field(0)), [true, false, false, false]);
-    assert_eq!(rt; seen_from(&w, Declared::Field(1)), [true, true, false, false]);
-    assert_eq!(rt; seen_from(&w, Declared::Field(2)), [true, true, false, false]);
+    assert_eq!(rt;
+        seen_from(&w, Declared::Field(0)),
+        [true, false, false, false]
+    );
+    assert_eq!(rt;
+        seen_from(&w, Declared::Field(1)),
+        [true, true, false, false]
+    );
+    assert_eq!(rt;
+        seen_from(&w, Declared::Field(2)),
+        [true, true, false, false]
+    );
     assert_eq!(rt; seen_from(&w, Declared::Field(3)), [true, true, true, true]);
     assert_eq!(rt; seen_from(&w, Declared::Field(4)), [true, true, true, true]);
     Ok(())

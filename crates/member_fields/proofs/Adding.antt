@@ -1,13 +1,11 @@
 -- A class more is done.
-use Rattle.std.proofs.Common.{◌≡◌, ℕ, ◌+◌, ◌<◌, ◌≤◌, Bool, true, false, List, [], ◌∷◌, Some, ◌⊎◌, inl, inr, ◌↔◌, refl, sym, ap, ◌∙◌, subst, length, get_or, take, arith}
+use Rattle.std.proofs.Common.{◌≡◌, ℕ, ◌+◌, ◌<◌, true, false, List, ◌⊎◌, inl, inr, ◌↔◌, refl, ap, ◌∙◌, subst, length, get_or, take}
 use Rattle.std.specs.Prelude.{slice_get, slice_set, Contains}
 use Rattle.std.specs.List.{fold}
 use Rattle.std.proofs.lemmas.Option.{slice_get_within, slice_get-get_or}
-use Rattle.std.proofs.lemmas.List.Elements.{Contains-get_or}
 use Rattle.shared_maps.specs.declared.Map.{Map}
 use Rattle.shared_maps.specs.Trees.{Memory}
-use Rattle.shared_maps.specs.Maps.{IsMap, KeepsMaps, value_in}
-use Rattle.shared_maps.proofs.Kept.{keeps_both}
+use Rattle.shared_maps.specs.Maps.{KeepsMaps, value_in}
 use Rattle.class_world.specs.declared.world.World.{World}
 use Rattle.class_world.specs.Sound.{IsSound}
 use Rattle.class_world.proofs.Words.{same_or_other, set_here, set_there, length_set}
@@ -17,9 +15,9 @@ use Rattle.member_fields.specs.Values.{Changes, joined, with_at, without_at}
 use Rattle.member_fields.specs.Sums.{HandsDown, HasMap, HasMember, IsHanded, IsHandedBy, Sums}
 use Rattle.member_fields.specs.Built.{Grows, IsDone, IsSized}
 use Rattle.member_fields.proofs.Lists.{next_contained}
-use Rattle.member_fields.proofs.Meanings.{IsAlso, IsKeptBut, joined_sums, same_sums, with_sums, without_sums}
+use Rattle.member_fields.proofs.Meanings.{IsKeptBut, joined_sums, same_sums, with_sums, without_sums}
 use Rattle.member_fields.proofs.Members.{members_are, handed_are}
-use Rattle.member_fields.proofs.Steps.{has_kept, sums_changed, sums_kept}
+use Rattle.member_fields.proofs.Steps.{has_kept, sums_changed}
 
 pub sums_alike : {m : Memory} {P Q : ℕ → ℕ → Type 0} {map : Map} → ((n f : ℕ) → P n f ↔ Q n f) → Sums m P map → Sums m Q map
 sums_alike {m} {P} {Q} {map} alike h = record { is_map = h.is_map; sums = λ n below. same_sums (value_in m map n) (alike n) (h.sums n below) }

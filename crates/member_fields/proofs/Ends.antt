@@ -1,12 +1,11 @@
 -- The table that is built says what each name means.
-use Rattle.std.proofs.Common.{◌≡◌, ℕ, ◌<◌, ◌≤◌, zero, suc, List, Option, Some, None, ◌⊎◌, inl, inr, ◌↔◌, refl, sym, ap, ◌∙◌, subst, length, arith}
+use Rattle.std.proofs.Common.{◌≡◌, ℕ, ◌<◌, List, Option, Some, None, ◌⊎◌, inl, inr, ◌↔◌, refl, sym, ap, subst, length, arith}
 use Rattle.std.specs.Prelude.{slice_get}
 use Rattle.std.proofs.lemmas.Option.{slice_get_within}
 use Rattle.java_tree.specs.declared.tree.Name.{Name}
 use Rattle.class_world.specs.declared.world.World.{World}
-use Rattle.class_world.specs.declared.world.FieldInfo.{FieldInfo}
 use Rattle.class_world.specs.declared.world.JavaType.{JavaType}
-use Rattle.class_world.specs.Inheritance.{FieldIs, IsFieldNamed, IsMemberField, declared, holder, inherited}
+use Rattle.class_world.specs.Inheritance.{IsFieldNamed, IsMemberField, declared, holder, inherited}
 use Rattle.class_world.specs.Sound.{IsSound}
 use Rattle.shared_maps.specs.declared.Map.{Map}
 use Rattle.shared_maps.specs.Trees.{Memory}
@@ -17,7 +16,7 @@ use Rattle.member_fields.specs.declared.tables.FieldTable.{FieldTable}
 use Rattle.member_fields.specs.Built.{IsDone, IsSized}
 use Rattle.member_fields.specs.Fields.{HoldsFields, value_at, value_under}
 use Rattle.member_fields.specs.Own.{ListsFields, NamesBelow}
-use Rattle.member_fields.specs.Sums.{HasMember, IsNamed, Summarizes, Sums}
+use Rattle.member_fields.specs.Sums.{HasMember, Summarizes, Sums}
 use Rattle.member_fields.proofs.Heights.{above_known}
 use Rattle.member_fields.proofs.Lists.{there_is}
 use Rattle.member_fields.proofs.Meanings.{field_is, same_sums}

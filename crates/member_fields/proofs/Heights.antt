@@ -1,5 +1,5 @@
 -- The classes directly above a class.
-use Rattle.std.proofs.Common.{◌≡◌, ℕ, ◌+◌, ◌<◌, ◌≤◌, true, List, [], ◌∷◌, Some, ◌⊎◌, inl, inr, ◌↔◌, refl, sym, ap, ◌∙◌, subst, length, arith}
+use Rattle.std.proofs.Common.{◌≡◌, ℕ, ◌+◌, ◌<◌, ◌≤◌, true, List, [], ◌∷◌, Some, ◌⊎◌, inl, inr, ◌↔◌, sym, ap, ◌∙◌, subst, length, arith}
 use Rattle.std.specs.Prelude.{slice_get, Contains}
 use Rattle.std.proofs.lemmas.Option.{slice_get_within}
 use Rattle.class_world.specs.declared.world.World.{World}
@@ -8,7 +8,7 @@ use Rattle.class_world.specs.declared.world.JavaType.{JavaType}
 use Rattle.class_world.specs.declared.world.JavaType.TheVariants as ty
 use Rattle.class_world.specs.Inheritance.{IsDirectlyAbove}
 use Rattle.class_world.specs.Sequences.{IsSequence}
-use Rattle.class_world.specs.Sound.{AreSupers, IsSound}
+use Rattle.class_world.specs.Sound.{IsSound}
 use Rattle.class_world.specs.Subclasses.{IsDirectSuper}
 use Rattle.class_world.proofs.Words.{same_or_other}
 use Rattle.member_fields.specs.Sums.{IsAbove, IsHanded, IsHandedBy}

@@ -55,3 +55,14 @@ pub there_is : {A : Type 0} (xs : List A) (i : ℕ) → i < length xs → (x : A
 there_is [] i lt = absurd (omega (arith, lt))
 there_is (x ∷ xs) zero lt = (x, refl)
 there_is (x ∷ xs) (suc i) lt = there_is xs i (omega (arith, lt))
+
+-- what holds of each element below a place, and of the one there
+pub each_more : {A : Type 0} (P : A → Type 0) (xs : List A) (i : ℕ) (x : A) → slice_get xs i ≡ Some x → P x → ((k : ℕ) (a : A) → k < i → slice_get xs k ≡ Some a → P a)
+    → (k : ℕ) (a : A) → k < i + 1 → slice_get xs k ≡ Some a → P a
+each_more P xs i x here this before k a below at = elim (lower_or_last k below) [
+  | inl low ↦ before k a low at
+  | inr last ↦ let same : x ≡ a = let there = ap (slice_get xs) (sym last) ∙ at in cc (here, there) in subst P same this
+]
+  where
+    lower_or_last : (k : ℕ) → k < i + 1 → (k < i) ⊎ (k ≡ i)
+    lower_or_last k h = grind (arith, h)

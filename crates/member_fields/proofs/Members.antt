@@ -1,5 +1,5 @@
 -- The member fields of a class: what those above hand down, and its own.
-use Rattle.std.proofs.Common.{◌≡◌, ℕ, ◌<◌, Bool, true, false, List, [], ◌∷◌, Some, ◌⊎◌, inl, inr, ◌↔◌, refl, sym, ap, ◌∙◌, subst}
+use Rattle.std.proofs.Common.{◌≡◌, ℕ, Bool, true, false, List, Some, ◌⊎◌, inl, inr, ◌↔◌, sym, ap, ◌∙◌, subst}
 use Rattle.std.specs.Prelude.{slice_get, Contains}
 use Rattle.java_tree.specs.declared.tree.Name.{Name}
 use Rattle.java_tree.specs.declared.tree.Mod.TheVariants as mods
@@ -9,7 +9,7 @@ use Rattle.class_world.specs.Inheritance.{DeclaresField, IsDirectlyAbove, IsMemb
 use Rattle.class_world.specs.Sound.{IsSound}
 use Rattle.class_world.proofs.Words.{same_or_other}
 use Rattle.member_fields.specs.Own.{Owns}
-use Rattle.member_fields.specs.Sums.{HandsDown, HasMember, IsAbove, IsHanded, IsNamed, IsPrivate}
+use Rattle.member_fields.specs.Sums.{HandsDown, HasMember, IsHanded, IsNamed, IsPrivate}
 use Rattle.member_fields.proofs.Heights.{none_above_top, not_itself}
 use Rattle.member_fields.proofs.Meanings.{IsAlso, IsKeptBut}
 

@@ -5,7 +5,6 @@ use Rattle.std.proofs.lemmas.Option.{slice_get_read, slice_get_within, slice_get
 use Rattle.class_world.specs.declared.world.World.{World}
 use Rattle.class_world.specs.Sequences.{IsSequence}
 use Rattle.class_world.specs.Sound.{IsSound}
-use Rattle.class_world.proofs.Words.{same_or_other}
 use Rattle.member_fields.specs.declared.build.Build.{Build}
 use Rattle.member_fields.specs.Own.{ListsFields, Owns}
 use Rattle.member_fields.specs.Sums.{HandsDown, HasMap, IsAbove}

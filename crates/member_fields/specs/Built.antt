@@ -1,5 +1,5 @@
 -- How far the table is built.
-use Rattle.std.specs.Prelude.{◌≡◌, ℕ, ◌<◌, ◌≤◌, Vec, length}
+use Rattle.std.specs.Prelude.{◌≡◌, ℕ, length}
 use Rattle.class_world.specs.declared.world.World.{World}
 use Rattle.member_fields.specs.declared.build.Build.{Build}
 use Rattle.member_fields.specs.Sums.{HandsDown, HasMap, HasMember}

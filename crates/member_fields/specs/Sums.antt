@@ -1,5 +1,5 @@
 -- What the maps say of the member fields of the classes.
-use Rattle.std.specs.Prelude.{◌≡◌, ℕ, zero, suc, ◌<◌, ◌⊎◌, List, Option, Some, None, Contains, slice_get, length}
+use Rattle.std.specs.Prelude.{◌≡◌, ℕ, zero, suc, ◌<◌, List, Option, Some, None, Contains, slice_get}
 use Rattle.java_tree.specs.declared.tree.Mod.TheVariants as mods
 use Rattle.class_world.specs.declared.world.World.{World}
 use Rattle.class_world.specs.declared.world.FieldInfo.{FieldInfo}
@@ -7,7 +7,6 @@ use Rattle.class_world.specs.Inheritance.{IsDirectlyAbove, IsMemberField}
 use Rattle.shared_maps.specs.declared.Map.{Map}
 use Rattle.shared_maps.specs.Trees.{Memory}
 use Rattle.shared_maps.specs.Maps.{IsMap, value_in}
-use Rattle.member_fields.specs.Own.{Owns}
 
 -- what a value says of a set of fields
 abbrev pub Summarizes : (ℕ → Type 0) → Option ℕ → Type 0

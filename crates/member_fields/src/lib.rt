@@ -5,6 +5,8 @@ mod build;
 mod inherited;
 mod own;
 mod tables;
+#[cfg(test)]
+mod tests;
 mod values;
 
 pub use tables::FieldTable;

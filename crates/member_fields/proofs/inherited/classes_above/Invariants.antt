@@ -1,4 +1,4 @@
-use Rattle.std.proofs.Common.{◌≡◌, ℕ, ◌<◌, ◌⊎◌, ◌↔◌, List, Some, true, []}
+use Rattle.std.proofs.Common.{◌≡◌, ℕ, ◌<◌, ◌⊎◌, ◌↔◌, List, Some}
 use Rattle.std.specs.Prelude.{slice_get, Contains}
 use Rattle.class_world.specs.declared.world.JavaType.{JavaType}
 use Rattle.class_world.specs.declared.world.JavaType.TheVariants as ty

@@ -2,7 +2,7 @@ use Rattle.std.proofs.Common.{get_or}
 use Rattle.std.proofs.lemmas.List.Elements.{Contains-get_or}
 use Rattle.shared_maps.proofs.Kept.{keeps_both}
 use Rattle.member_fields.proofs.Adding.{handed_map, merged_next}
-use Rattle.member_fields.proofs.Steps.{has_kept, sums_kept}
+use Rattle.member_fields.proofs.Steps.{sums_kept}
 use Rattle.member_fields.proofs.inherited.merged_all.Goals as goal
 
 pub bounds-handed-s : goal.bounds-handed-s

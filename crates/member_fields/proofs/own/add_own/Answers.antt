@@ -1,8 +1,8 @@
-use Rattle.std.proofs.Common.{◌≡◌, ◌∙◌, ◌+◌, ◌<◌, [], ◌∷◌, ◌++◌, ap, Some, length, refl, arith}
+use Rattle.std.proofs.Common.{◌≡◌, ◌∙◌, ◌<◌, [], ◌∷◌, ◌++◌, ap, Some, length, refl, arith}
 use Rattle.std.specs.Prelude.{slice_get}
 use Rattle.std.proofs.lemmas.List.{length_push}
 use Rattle.std.proofs.lemmas.Option.{slice_get_read}
-use Rattle.member_fields.proofs.Owners.{added_own, empty_more, own_more, then_iff}
+use Rattle.member_fields.proofs.Owners.{added_own, empty_more, then_iff}
 use Rattle.member_fields.proofs.own.add_own.Goals as goal
 
 pub loop-preserved : goal.loop-preserved

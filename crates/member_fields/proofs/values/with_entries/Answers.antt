@@ -1,4 +1,3 @@
-use Rattle.std.proofs.Common.{ℕ}
 use Rattle.member_fields.specs.Values.{more_at}
 use Rattle.member_fields.proofs.Steps.{changes_next}
 use Rattle.member_fields.proofs.values.with_entries.Goals as goal

@@ -1,6 +1,5 @@
 use Rattle.std.proofs.Common.{refl, subst, sym}
 use Rattle.std.specs.Vec.{with_item}
-use Rattle.shared_maps.specs.declared.Map.{Map}
 use Rattle.shared_maps.proofs.Kept.{keeps_both}
 use Rattle.member_fields.specs.declared.build.Build.{Build}
 use Rattle.member_fields.specs.Built.{Grows, IsDone}
