@@ -1,0 +1,102 @@
+//! The search for the first broken rule.
+
+ghost use Rattle.std.specs.Prelude.{◌<◌, ◌^◌, IfOk, length};
+ghost use Rattle.class_world.specs.Sound.{IsKnown, IsSound};
+ghost use Rattle.rule_order.specs.First.{IsFirst};
+ghost use Rattle.member_methods.specs.Methods.{AreMembers, HoldsMethods};
+ghost use Rattle.overrides.specs.Overrides.{HoldsOverrides};
+ghost use Rattle.inherited_rules.specs.Rules.{InheritedBreaches};
+ghost use Rattle.inherited_rules.specs.Typed.{HaveTypes};
+ghost use Rattle.inherited_rules.specs.Parts.{BreachesOf, IsLowest};
+
+use crate::bodies::lacks_body;
+use crate::clashes::has_clash;
+use crate::results::has_unlike_results;
+use class_world::World;
+use java_tree::NoMemory;
+use member_methods::MethodLists;
+use overrides::Overrides;
+use rule_order::{Breach, earlier};
+use std::alloc::Global;
+
+/// The first of DR18 to DR20 that is broken: at the first type by node, and there the lowest number. `NoMemory` also where there are 2^32 types.
+///
+/// Takes time for the member methods of the types that have a node and, in each type, for the pairs of those of one name and one number of parameters. Most pairs of other parameter types take no memory. In a type with many overloads of one number of parameters the pairs are what counts; a table of erased signatures would leave the members.
+pub fn first_inherited_breach(
+    alloc: Global,
+    w: &World,
+    lists: &MethodLists,
+    overrides: &Overrides,
+) -> Result<Option<Breach>, NoMemory>
+    requires sound { IsSound w.now }
+    requires typed { HaveTypes w.now }
+    requires lists { HoldsMethods w.now lists.now }
+    requires overrides { HoldsOverrides w.now overrides.now }
+    ensures { IfOk result (λ o. IsFirst (InheritedBreaches w.now) o) }
+{
+    // More types than numbers find no room in the memory of any machine.
+    if w.types.len() > u32::MAX as usize {
+        return Err(NoMemory);
+    }
+    let mut first = None;
+    for c in 0..w.types.len() as u32 {
+        first = earlier(first, breach_of(alloc, w, lists, overrides, c)?);
+    }
+    Ok(first)
+}
+
+/// What a type breaks, where it has a node.
+fn breach_of(
+    alloc: Global,
+    w: &World,
+    lists: &MethodLists,
+    overrides: &Overrides,
+    c: u32,
+) -> Result<Option<Breach>, NoMemory>
+    requires sound { IsSound w.now }
+    requires typed { HaveTypes w.now }
+    requires lists { HoldsMethods w.now lists.now }
+    requires overrides { HoldsOverrides w.now overrides.now }
+    ensures { IfOk result (λ o. IsFirst (BreachesOf w.now c) o) }
+{
+    let Some(info) = w.types.get(c as usize) else {
+        return Ok(None);
+    };
+    let Some(node) = info.node else {
+        return Ok(None);
+    };
+    let members = lists.all(alloc, c)?;
+    match lowest_rule(alloc, w, lists, overrides, c, members.as_slice())? {
+        Some(rule) => Ok(Some(Breach { node, rule })),
+        None => Ok(None),
+    }
+}
+
+/// The lowest number of a rule that the type breaks.
+fn lowest_rule(
+    alloc: Global,
+    w: &World,
+    lists: &MethodLists,
+    overrides: &Overrides,
+    c: u32,
+    members: &[u32],
+) -> Result<Option<u8>, NoMemory>
+    requires sound { IsSound w.now }
+    requires typed { HaveTypes w.now }
+    requires known { IsKnown w.now c }
+    requires lists { HoldsMethods w.now lists.now }
+    requires overrides { HoldsOverrides w.now overrides.now }
+    requires members { AreMembers w.now c members.now }
+    ensures { IfOk result (λ o. IsLowest w.now c o) }
+{
+    if lacks_body(w, lists, overrides, c, members) {
+        return Ok(Some(18));
+    }
+    if has_unlike_results(alloc, w, lists, c, members)? {
+        return Ok(Some(19));
+    }
+    if has_clash(alloc, w, lists, c, members)? {
+        return Ok(Some(20));
+    }
+    Ok(None)
+}

@@ -1,0 +1,10 @@
+pub mod Firsts
+pub mod Seen
+pub mod Arena
+pub mod Maps
+pub mod Numbers
+pub mod Direct
+pub mod Groups
+pub mod Taken
+pub mod Members
+pub mod Whole

@@ -1,0 +1,19 @@
+use Rattle.std.proofs.Common.{ap, subst, length, arith}
+use Rattle.member_methods.specs.Keys.{found_in}
+use Rattle.member_methods.specs.Made.{AreMade}
+use Rattle.member_methods.proofs.Whole.{all_named, all_listed}
+use Rattle.member_methods.proofs.MethodLists.of.Goals as goal
+
+pub all_made-requires-clause-few : goal.all_made-requires-clause-few
+all_made-requires-clause-few c = let same = ap length c.as_slice.ensures.value in let few = c.in_ok-keys.ensures.few in omega (arith, same, few)
+
+pub returns : goal.returns
+returns c =
+    let keyed = c.in_ok-keys.keyed.items in
+    let made = c.in_ok-made.made in
+    let all = subst (λ l. AreMade c.args.w.now l made) c.as_slice.ensures.value c.in_ok-made.ensures in
+    let keys = c.in_ok-keys.ensures.keys in
+    record {
+      named = λ t n arity. all_named c.args.w.now (found_in c.in_ok-keys.keys) keyed keys t n arity made.tables made.members.items all.limit (λ d lt. (all.each d lt).members);
+      members = λ t m. all_listed c.args.w.now (found_in c.in_ok-keys.keys) keyed keys made.tables made.members.items all.limit (λ d lt. (all.each d lt).members) t m;
+    }

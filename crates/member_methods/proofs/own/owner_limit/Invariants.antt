@@ -1,0 +1,12 @@
+use Rattle.std.proofs.Common.{◌≡◌, ℕ, ◌<◌, ◌≤◌, ◌^◌, Some, length}
+use Rattle.std.specs.Prelude.{slice_get}
+use Rattle.class_world.specs.declared.world.MethodInfo.{MethodInfo}
+use Rattle.member_methods.proofs.own.owner_limit.Given as goal
+
+abbrev pub invariant-loop-info : goal.invariant-loop-info
+invariant-loop-info l = record {
+  types : length l.w.types ≤ l.limit;
+  some : 0 < l.limit;
+  owners : (m : ℕ) (info : MethodInfo) → m < l.info-index → slice_get l.info-items m ≡ Some info → info.owner < l.limit;
+  few : length l.w.types < l.limit → l.limit ≤ 2 ^ 32;
+}

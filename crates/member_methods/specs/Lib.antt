@@ -1,0 +1,7 @@
+pub mod Keys
+pub mod Lists
+pub mod Tables
+pub mod Own
+pub mod Signed
+pub mod Made
+pub mod Methods

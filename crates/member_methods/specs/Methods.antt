@@ -1,0 +1,39 @@
+-- The member methods of a type by name and number of parameters.
+use Rattle.std.specs.Prelude.{◌≡◌, ℕ, ◌↔◌, List, [], Option, Some, None, slice_get}
+use Rattle.std.specs.List.{Contains}
+use Rattle.std.specs.List.Sorted.{IsStrictlyIncreasing}
+use Rattle.java_tree.specs.declared.tree.Name.{Name}
+use Rattle.class_world.specs.declared.world.World.{World}
+use Rattle.class_world.specs.Inheritance.{IsMemberMethod, IsMethodNamed}
+use Rattle.shared_maps.specs.declared.Map.{Map}
+use Rattle.member_methods.specs.declared.MethodLists.{MethodLists}
+use Rattle.member_methods.specs.declared.tables.Tables.{Tables}
+use Rattle.member_methods.specs.Keys.{found_in}
+use Rattle.member_methods.specs.Tables.{listed}
+
+-- the numbers are those of the member methods of c with this name and number of parameters, ascending
+abbrev pub AreNamed : World → ℕ → Name → ℕ → List ℕ → Type 0
+AreNamed w c n arity ms = ((m : ℕ) → Contains ms m ↔ IsMethodNamed w c n arity m) × IsStrictlyIncreasing ms
+
+-- what is listed by a map, if there is one, for a key, if there is one
+abbrev pub listed_by : Tables → Option Map → Option ℕ → List ℕ
+listed_by t None key = []
+listed_by t (Some map) None = []
+listed_by t (Some map) (Some k) = listed t map k
+
+-- what the lists have for a type, a name and a number of parameters
+abbrev pub methods_in : MethodLists → ℕ → Name → ℕ → List ℕ
+methods_in t c n arity = listed_by t.tables (slice_get t.members.items c) (found_in t.keys (record { name = n.0; arity = arity }))
+
+-- the map of the type c lists m for some key
+abbrev pub IsListedAt : MethodLists → ℕ → ℕ → Type 0
+IsListedAt t c m = (map : Map) × (slice_get t.members.items c ≡ Some map) × ((k : ℕ) × Contains (listed t.tables map k) m)
+
+-- the numbers are those of all member methods of c
+abbrev pub AreMembers : World → ℕ → List ℕ → Type 0
+AreMembers w c ms = (m : ℕ) → Contains ms m ↔ IsMemberMethod w c m
+
+-- the lists have the member methods of each type, by name and number of parameters, and all together
+pub record HoldsMethods (w : World) (t : MethodLists) : Type 0 where
+  pub named : (c : ℕ) (n : Name) (arity : ℕ) → AreNamed w c n arity (methods_in t c n arity)
+  pub members : (c m : ℕ) → IsListedAt t c m ↔ IsMemberMethod w c m

@@ -1,0 +1,190 @@
+//! The methods that a class has from both sides with one signature.
+
+ghost use Rattle.std.specs.Prelude.{◌≡◌, ◌↔◌, ◌⊎◌, ℕ, IfOk, OnOk, IsTrue, length};
+ghost use Rattle.std.specs.List.{Contains};
+ghost use Rattle.std.specs.List.Sorted.{IsStrictlyIncreasing};
+ghost use Rattle.class_world.specs.Sound.{IsSound};
+ghost use Rattle.class_world.specs.Inheritance.{DeclaresMethod, IsMemberMethod};
+ghost use Rattle.class_world.specs.Access.{IsInterface};
+ghost use Rattle.class_world.specs.Overriding.{IsClass};
+ghost use Rattle.member_methods.specs.Methods.{HoldsMethods};
+ghost use Rattle.method_ties.specs.declared.Meeting as pairs;
+ghost use Rattle.method_ties.specs.Ties.{AreMeetings};
+ghost use Rattle.method_ties.specs.Sides.{AreAll, IsClassUnder, IsInherited, IsLower, IsOnce, Meets};
+
+use crate::Meeting;
+use crate::lists::{ascending, is_among};
+use crate::supers::{directly_above, is_class, is_interface};
+use class_world::World;
+use java_tree::{Items, NoMemory};
+use member_methods::MethodLists;
+use seen_methods::{have_one_signature, is_declared_below, method_of};
+use std::alloc::Global;
+
+/// The members of those of the types that are interfaces, ascending.
+fn interface_members(
+    alloc: Global,
+    w: &World,
+    lists: &MethodLists,
+    types: &[u32],
+) -> Result<Vec<u32>, NoMemory>
+    requires { HoldsMethods w.now lists.now }
+    ensures has { IfOk result (λ v. (k : ℕ) → Contains v.items k ↔ ((i : ℕ) × Contains types.now i × IsInterface w.now i × IsMemberMethod w.now i k)) }
+    ensures ascending { IfOk result (λ v. IsStrictlyIncreasing v.items) }
+{
+    let mut found = Vec::new(alloc);
+    for i in types {
+        if is_interface(w, *i) {
+            let members = lists.all(alloc, *i)?;
+            found.extend_from_slice(members.as_slice())?;
+        }
+    }
+    Ok(ascending(found))
+}
+
+/// Whether the method is a member of one of the types that is a class.
+fn is_of_class(w: &World, lists: &MethodLists, types: &[u32], m: u32) -> bool
+    requires { HoldsMethods w.now lists.now }
+    ensures { IsTrue result ↔ ((s : ℕ) × Contains types.now s × IsClass w.now s × IsMemberMethod w.now s m) }
+{
+    let Some(info) = method_of(w, m) else {
+        return false;
+    };
+    for s in types {
+        if is_class(w, *s) && is_among(lists.named(*s, info.name, info.params.len()), m) {
+            return true;
+        }
+    }
+    false
+}
+
+/// Whether a class declares the method.
+fn is_declared_in_class(w: &World, m: u32) -> bool
+    ensures { IsTrue result ↔ ((o : ℕ) × DeclaresMethod w.now o m × IsClass w.now o) }
+{
+    match method_of(w, m) {
+        Some(info) => is_class(w, info.owner),
+        None => false,
+    }
+}
+
+/// Whether the method is a member of the type `c`, which does not declare it.
+fn is_inherited(w: &World, lists: &MethodLists, c: u32, m: u32) -> bool
+    requires { HoldsMethods w.now lists.now }
+    ensures { IsTrue result ↔ IsInherited w.now c m }
+{
+    match method_of(w, m) {
+        Some(info) => {
+            info.owner != c && is_among(lists.named(c, info.name, info.params.len()), m)
+        }
+        None => false,
+    }
+}
+
+/// Whether the class `c`, under the types `above`, has the method from its superclass, and it is one that a class declares.
+fn is_lower(w: &World, lists: &MethodLists, c: u32, above: &[u32], m: u32) -> bool
+    requires lists { HoldsMethods w.now lists.now }
+    requires above { IsClassUnder w.now c above.now }
+    ensures { IsTrue result ↔ IsLower w.now c m }
+{
+    is_inherited(w, lists, c, m) && is_declared_in_class(w, m) && is_of_class(w, lists, above, m)
+}
+
+/// Whether the method `m` meets `k`, which the class has from an interface.
+fn meets(
+    alloc: Global,
+    w: &World,
+    lists: &MethodLists,
+    c: u32,
+    above: &[u32],
+    m: u32,
+    k: u32,
+) -> Result<bool, NoMemory>
+    requires sound { IsSound w.now }
+    requires lists { HoldsMethods w.now lists.now }
+    requires above { IsClassUnder w.now c above.now }
+    ensures { IfOk result (λ r. IsTrue r ↔ Meets w.now c m k) }
+{
+    if !is_lower(w, lists, c, above, m) || is_declared_below(w, m, k) {
+        return Ok(false);
+    }
+    have_one_signature(alloc, w, c, m, k)
+}
+
+/// Adds the pairs of the methods that meet `k`, which the class has from an interface.
+fn add_meetings(
+    alloc: Global,
+    w: &World,
+    lists: &MethodLists,
+    c: u32,
+    above: &[u32],
+    k: u32,
+    found: &mut Vec<Meeting>,
+) -> Result<(), NoMemory>
+    requires sound { IsSound w.now }
+    requires lists { HoldsMethods w.now lists.now }
+    requires above { IsClassUnder w.now c above.now }
+    requires once { IsOnce found.old.items }
+    requires new { (m : ℕ) → Contains found.old.items (record { lower = m; upper = k }) → ⊥ }
+    ensures has { OnOk result ((p : pairs.Meeting) → Contains found.new.items p ↔ (Contains found.old.items p ⊎ ((p.upper ≡ k) × Meets w.now c p.lower k))) }
+    ensures once { OnOk result (IsOnce found.new.items) }
+{
+    let Some(info) = method_of(w, k) else {
+        return Ok(());
+    };
+    for m in lists.named(c, info.name, info.params.len()) {
+        if meets(alloc, w, lists, c, above, *m, k)? {
+            found.push(Meeting {
+                lower: *m,
+                upper: k,
+            })?;
+        }
+    }
+    Ok(())
+}
+
+/// The pairs that one type has from both sides.
+fn meetings_of(
+    alloc: Global,
+    w: &World,
+    lists: &MethodLists,
+    c: u32,
+) -> Result<Items<Meeting>, NoMemory>
+    requires sound { IsSound w.now }
+    requires lists { HoldsMethods w.now lists.now }
+    ensures { IfOk result (λ ps. AreMeetings w.now c ps × IsOnce ps) }
+{
+    if !is_class(w, c) {
+        return Ok(Items::new(alloc));
+    }
+    let above = directly_above(alloc, w, c)?;
+    let upper = interface_members(alloc, w, lists, above.as_slice())?;
+    let mut found = Vec::new(alloc);
+    for k in &upper {
+        if is_inherited(w, lists, c, *k) {
+            add_meetings(alloc, w, lists, c, above.as_slice(), *k, &mut found)?;
+        }
+    }
+    Ok(Items::from_vec(found))
+}
+
+/// What meets in each type, by its number.
+pub(crate) fn all_meetings(
+    alloc: Global,
+    w: &World,
+    lists: &MethodLists,
+) -> Result<Vec<Items<Meeting>>, NoMemory>
+    requires sound { IsSound w.now }
+    requires lists { HoldsMethods w.now lists.now }
+    ensures { IfOk result (λ v. AreAll (λ c ps. AreMeetings w.now c ps × IsOnce ps) v.items (length w.now.types)) }
+{
+    // More types than numbers find no room in the memory of any machine.
+    if w.types.len() > u32::MAX as usize {
+        return Err(NoMemory);
+    }
+    let mut all = Vec::new(alloc);
+    for c in 0..w.types.len() as u32 {
+        all.push(meetings_of(alloc, w, lists, c)?)?;
+    }
+    Ok(all)
+}

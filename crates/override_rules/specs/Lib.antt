@@ -1,0 +1,3 @@
+pub mod Judged
+pub mod Rules
+pub mod Typed

@@ -1,0 +1,131 @@
+-- Steps that add to the rows of a table.
+use Rattle.std.proofs.Common.{◌≡◌, ℕ, ◌+◌, ◌<◌, ◌≤◌, List, Bool, true, false, Some, None, ◌⊎◌, inl, inr, refl, sym, ap, ◌∙◌, subst, length, arith}
+use Rattle.std.specs.Prelude.{slice_get}
+use Rattle.std.specs.List.{Contains}
+use Rattle.class_world.specs.declared.world.World.{World}
+use Rattle.class_world.specs.Signatures.{AgreeBelow}
+use Rattle.class_world.specs.Overriding as by
+use Rattle.class_world.specs.Overriding.{OverridesAtOnce, Overriding}
+use Rattle.class_world.proofs.Words.{same_or_other}
+use Rattle.overrides.specs.declared.at_once.TheConstants.{APART}
+use Rattle.overrides.specs.Tables.{Rows, IsOfSize, AreOfOneSize, IsBegun, Has, value_at}
+use Rattle.overrides.specs.AtOnce.{IsFree}
+use Rattle.overrides.specs.Rounds.{IsDerived, IsStep, IsFollowed, IsClosedAt, HoldsOverriding}
+use Rattle.overrides.proofs.Places.{items_more, items_all}
+use Rattle.overrides.proofs.Belows.{at_once_within, overriding_within}
+
+-- ---- steps one after another
+
+pub step_none : (t : Rows) → IsStep t t false
+step_none t = record { grows = λ m k h. h; gains = λ e. absurd (cc e); same = λ e. refl }
+
+pub step_on : {a b c : Rows} {x : Bool} → IsStep a b x → IsStep b c true → IsStep a c true
+step_on {a = a} {b = b} {c = c} first second =
+    let gains = second.gains refl in
+    record {
+      grows = λ m k h. second.grows m k (first.grows m k h);
+      gains = λ e. (gains.0, gains.1, λ h. gains.2 (first.grows gains.0 gains.1 h), gains.3);
+      same = λ e. absurd (cc e);
+    }
+
+pub step_still : {a b c : Rows} {x : Bool} → IsStep a b x → IsStep b c false → IsStep a c x
+step_still {a = a} {b = b} {c = c} {x = x} first second = subst (λ t. IsStep a t x) (sym (second.same refl)) first
+
+pub same_size : {n : ℕ} {old new : Rows} → IsOfSize n old → IsOfSize n new → AreOfOneSize old new
+same_size old new = record { rows = new.rows ∙ sym old.rows; keys = new.keys ∙ sym old.keys }
+
+pub size_on : {n : ℕ} {old new : Rows} → IsOfSize n old → AreOfOneSize old new → IsOfSize n new
+size_on old same = record { rows = same.rows ∙ old.rows; keys = same.keys ∙ old.keys }
+
+-- ---- a row begun
+
+module _ (old new : Rows) (m t : ℕ) (begun : IsBegun old new m t) (bare : (k : ℕ) → value_at old m k ≡ None) where
+  begun_row : (w : World) → IsDerived w old → OverridesAtOnce w m t → IsFree w m t → (b : ℕ) → Has new m b → Overriding w m b
+  begun_row w derived edge free b h = elim (same_or_other b t) [
+    | inl key ↦ subst (Overriding w m) (sym key) (by.at_once edge)
+    | inr other ↦ elim (same_or_other b m) [
+      | inl itself ↦
+          let never : None ≡ Some h.0 = sym (begun.itself (λ e. other (itself ∙ e))) ∙ ap (value_at new m) (sym itself) ∙ h.1 in
+          absurd (cc never)
+      | inr apart ↦
+          let up = derived.sound t b (h.0, sym (begun.row b apart other) ∙ h.1) in
+          by.through edge up (λ e. apart (sym e)) (free b up)
+    ]
+  ]
+
+  pub begun_derived : (w : World) → IsDerived w old → AreOfOneSize old new → OverridesAtOnce w m t → IsFree w m t → IsDerived w new
+  begun_derived w derived size edge free = record {
+    size = size_on derived.size size;
+    sound = λ a b h. elim (same_or_other a m) [
+      | inl row ↦ subst (λ i. Overriding w i b) (sym row) (begun_row w derived edge free b (h.0, ap (λ i. value_at new i b) (sym row) ∙ h.1))
+      | inr other ↦ derived.sound a b (h.0, sym (begun.there a b other) ∙ h.1)
+    ];
+  }
+
+-- ---- what is in the rows
+
+pub added_derived : (w : World) (old new : Rows) (m k : ℕ) → IsDerived w old → AreOfOneSize old new → ((a b : ℕ) → Has new a b → Has old a b ⊎ ((a ≡ m) × (b ≡ k))) → Overriding w m k → IsDerived w new
+added_derived w old new m k derived size only up = record {
+  size = size_on derived.size size;
+  sound = λ a b h. elim (only a b h) [
+    | inl was ↦ derived.sound a b was
+    | inr new ↦ subst (λ i. Overriding w i b) (sym new.0) (subst (Overriding w m) (sym new.1) up)
+  ];
+}
+
+pub derived_row : (w : World) (t : Rows) (m k : ℕ) → IsDerived w t → Overriding w m k → m < length t.rows
+derived_row w t m k derived up = let lt = (overriding_within up).0 in omega (arith, lt, derived.size.rows)
+
+pub derived_key : (w : World) (t : Rows) (m k : ℕ) → IsDerived w t → Overriding w m k → k < t.maps.keys
+derived_key w t m k derived up = let lt = (overriding_within up).1 in omega (arith, lt, derived.size.keys)
+
+-- rows that are closed have all
+module _ (w : World) (t : Rows) (closed : (m : ℕ) → m < length w.methods → IsClosedAt w t m) where
+  has_all : {m k : ℕ} → Overriding w m k → Has t m k
+  has_all (by.at_once {m = m} {k = k} edge) = (closed m (at_once_within edge).0 k edge).0
+  has_all (by.through {m = m} {t = x} {k = k} edge up other agree) = (closed m (at_once_within edge).0 x edge).1 k (has_all up) other agree
+
+  pub closed_holds : IsDerived w t → HoldsOverriding w t
+  closed_holds derived m k = (derived.sound m k, has_all)
+
+-- what is wanted of an entry of the table of ties, and of an entry of what t overrides
+abbrev pub FollowsTie : World → ℕ → Rows → ℕ × ℕ → Type 0
+FollowsTie w m t p = (p.1 ≡ APART → ⊥) → IsFollowed w t m p.0
+
+abbrev pub HasThird : World → ℕ → Rows → ℕ × ℕ → Type 0
+HasThird w m t p = (m ≡ p.0 → ⊥) → AgreeBelow w m p.0 → Has t m p.0
+
+-- ---- a pass over items, each of which may add to the rows: where nothing was added, all is as it was, and what is wanted of an item holds of each so far
+
+pub record IsPass {A : Type 0} (w : World) (start now : Rows) (added : Bool) (P : Rows → A → Type 0) (items : List A) (i : ℕ) : Type 0 where
+  pub derived : IsDerived w now
+  pub step : IsStep start now added
+  pub done : added ≡ false → (j : ℕ) (x : A) → j < i → slice_get items j ≡ Some x → P now x
+
+module _ {A : Type 0} (w : World) (start : Rows) (P : Rows → A → Type 0) (items : List A) where
+  pub pass_begins : (now : Rows) (added : Bool) → IsDerived w now → IsStep start now added → IsPass w start now added P items 0
+  pass_begins now added derived step = record { derived = derived; step = step; done = λ e j x lt. absurd (omega (arith, lt)) }
+
+  module _ (now : Rows) (added : Bool) (i : ℕ) (x : A) (pass : IsPass w start now added P items i) (at : slice_get items i ≡ Some x) where
+    -- the item added something
+    pub pass_adds : (new : Rows) (r more : Bool) → IsDerived w new → IsStep now new r → r ≡ true → more ≡ true → IsPass w start new more P items (i + 1)
+    pass_adds new r more derived step told is = record {
+      derived = derived;
+      step = subst (IsStep start new) (sym is) (step_on pass.step (subst (IsStep now new) told step));
+      done = λ e. absurd (cc (is, e));
+    }
+
+    -- it added nothing
+    pub pass_stays : (new : Rows) (r more : Bool) → IsDerived w new → IsStep now new r → (r ≡ false → P new x) → r ≡ false → more ≡ added → IsPass w start new more P items (i + 1)
+    pass_stays new r more derived step here told is = record {
+      derived = derived;
+      step = subst (IsStep start new) (sym is) (step_still pass.step (subst (IsStep now new) told step));
+      done = λ e. items_more (P new) items i x (λ j y lt is_y. subst (λ t. P t y) (sym (step.same told)) (pass.done (sym is ∙ e) j y lt is_y)) at (here told);
+    }
+
+    -- it was passed over
+    pub pass_skips : P now x → IsPass w start now added P items (i + 1)
+    pass_skips here = record { derived = pass.derived; step = pass.step; done = λ e. items_more (P now) items i x (pass.done e) at here }
+
+  pub pass_ends : (now : Rows) (added : Bool) (i : ℕ) → IsPass w start now added P items i → length items ≤ i → added ≡ false → (x : A) → Contains items x → P now x
+  pass_ends now added i pass done e = items_all (P now) items i (pass.done e) done

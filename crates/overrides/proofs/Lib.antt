@@ -1,0 +1,9 @@
+pub mod Places
+pub mod Puts
+pub mod Belows
+pub mod Grids
+pub mod Edges
+pub mod Gains
+pub mod Gaps
+pub mod Marks
+pub mod Groups

@@ -1,0 +1,45 @@
+-- A table of numbers by a row and a key: a map for each row, in one memory.
+use Rattle.std.specs.Prelude.{◌≡◌, ℕ, List, Option, Some, None, slice_get, length}
+use Rattle.shared_maps.specs.declared.Map.{Map}
+use Rattle.shared_maps.specs.Trees.{Memory}
+use Rattle.shared_maps.specs.Maps.{IsMap, value_in}
+
+pub record Rows : Type 0 where
+  pub maps : Memory
+  pub rows : List Map
+
+-- what is true of every table
+pub record IsTable (maps : Memory) (rows : List Map) : Type 0 where
+  pub each : (i : ℕ) (map : Map) → slice_get rows i ≡ Some map → IsMap maps map
+
+abbrev pub value_of : Memory → Option Map → ℕ → Option ℕ
+value_of maps None key = None
+value_of maps (Some map) key = value_in maps map key
+
+-- what the row m has at a key
+abbrev pub value_at : Rows → ℕ → ℕ → Option ℕ
+value_at t m key = value_of t.maps (slice_get t.rows m) key
+
+abbrev pub Has : Rows → ℕ → ℕ → Type 0
+Has t m key = (v : ℕ) × (value_at t m key ≡ Some v)
+
+-- n rows, with the keys below n
+pub record IsOfSize (n : ℕ) (t : Rows) : Type 0 where
+  pub rows : length t.rows ≡ n
+  pub keys : t.maps.keys ≡ n
+
+pub record AreOfOneSize (old new : Rows) : Type 0 where
+  pub rows : length new.rows ≡ length old.rows
+  pub keys : new.maps.keys ≡ old.maps.keys
+
+-- the row m has a value at a key, and all others stay
+pub record IsWritten (old new : Rows) (m key v : ℕ) : Type 0 where
+  pub here : value_at new m key ≡ Some v
+  pub there : (a b : ℕ) → (a ≡ m → b ≡ key → ⊥) → value_at new a b ≡ value_at old a b
+
+-- The row m is now that of t, without the key m and with the key t; all others stay.
+pub record IsBegun (old new : Rows) (m t : ℕ) : Type 0 where
+  pub here : Has new m t
+  pub itself : (m ≡ t → ⊥) → value_at new m m ≡ None
+  pub row : (key : ℕ) → (key ≡ m → ⊥) → (key ≡ t → ⊥) → value_at new m key ≡ value_at old t key
+  pub there : (a b : ℕ) → (a ≡ m → ⊥) → value_at new a b ≡ value_at old a b

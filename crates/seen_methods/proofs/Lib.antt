@@ -1,0 +1,4 @@
+pub mod Fulls
+pub mod Bits
+pub mod Arguments
+pub mod Tells

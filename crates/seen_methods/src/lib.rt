@@ -1,0 +1,16 @@
+//! How declared types see the methods of the types above them (JLS 3rd edition, 4.5.2 and 8.4.2).
+#![tactic(auto)]
+
+mod agree;
+mod below;
+mod closed;
+mod puts;
+mod seen;
+#[cfg(test)]
+mod tests;
+#[cfg(test)]
+mod worlds;
+
+pub use agree::{agree_below, have_one_signature};
+pub use below::{is_declared_below, method_of};
+pub use seen::{seen_params, seen_result};
