@@ -1,10 +1,9 @@
 -- Members, and what a class has from the types directly above it.
-use Rattle.std.proofs.Common.{◌≡◌, ℕ, ◌≤◌, false, true, List, [], ◌∷◌, ◌++◌, Some, ◌⊎◌, inl, inr, ◌↔◌, map, refl, sym, ap, ◌∙◌, subst, length, arith}
+use Rattle.std.proofs.Common.{◌≡◌, ℕ, false, true, List, [], ◌∷◌, ◌++◌, Some, inl, inr, ◌↔◌, map, refl, sym, ap, ◌∙◌, subst, length, arith}
 use Rattle.std.specs.Prelude.{slice_get}
 use Rattle.std.specs.List.{Contains}
 use Rattle.std.specs.List.Sorted.{IsStrictlyIncreasing}
 use Rattle.std.proofs.lemmas.List.Elements.{Contains-push, Contains-push_cases}
-use Rattle.std.proofs.lemmas.Option.{slice_get_within}
 use Rattle.class_world.specs.declared.world.World.{World}
 use Rattle.class_world.specs.declared.world.TypeInfo.{TypeInfo}
 use Rattle.class_world.specs.declared.world.MethodInfo.{MethodInfo}
@@ -15,8 +14,8 @@ use Rattle.class_world.specs.Subtypes.{same}
 use Rattle.class_world.specs.Subclasses.{IsDirectSuper}
 use Rattle.class_world.specs.Signatures.{IsMethod, IsSeenWith, HasParams, HaveOneSignatureIn}
 use Rattle.class_world.specs.Access.{IsInterface}
-use Rattle.class_world.specs.Inheritance.{DeclaresMethod, Inherits, IsDirectlyAbove, IsMemberMethod, declared, inherited, IsMethodNamed, IsPrivateMethod}
-use Rattle.class_world.specs.Overriding.{IsClass, IsSuperclass, IsSuperinterface, IsDeclaredBelow, InheritsBoth, MeetIn, Replaces}
+use Rattle.class_world.specs.Inheritance.{DeclaresMethod, Inherits, IsDirectlyAbove, IsMemberMethod, declared, inherited, IsMethodNamed}
+use Rattle.class_world.specs.Overriding.{IsClass, IsSuperinterface, MeetIn, Replaces}
 use Rattle.class_world.proofs.Substs.{length_map, variables_length}
 use Rattle.method_ties.specs.declared.Meeting.{Meeting}
 use Rattle.method_ties.specs.Sides.{Suits, IsClassUnder, IsInherited, IsLower, Meets}

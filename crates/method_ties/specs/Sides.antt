@@ -4,7 +4,7 @@ use Rattle.std.specs.List.{Contains}
 use Rattle.class_world.specs.declared.world.World.{World}
 use Rattle.class_world.specs.Signatures.{HaveOneSignatureIn}
 use Rattle.class_world.specs.Inheritance.{DeclaresMethod, IsDirectlyAbove, IsMemberMethod, IsPrivateMethod, Inherits}
-use Rattle.class_world.specs.Overriding.{IsClass, IsSuperclass, IsSuperinterface, IsDeclaredBelow}
+use Rattle.class_world.specs.Overriding.{IsClass, IsSuperclass, IsDeclaredBelow}
 
 -- k is not private and has one signature with m in the type c
 abbrev pub Suits : World → ℕ → ℕ → ℕ → Type 0

@@ -1,5 +1,5 @@
 -- Which methods take the place of which, and which a class has from both sides.
-use Rattle.std.specs.Prelude.{◌≡◌, ℕ, ◌↔◌, List, [], Some, slice_get, unwrap_or}
+use Rattle.std.specs.Prelude.{ℕ, ◌↔◌, List, [], slice_get, unwrap_or}
 use Rattle.std.specs.List.{Contains}
 use Rattle.std.specs.List.Sorted.{IsStrictlyIncreasing}
 use Rattle.class_world.specs.declared.world.World.{World}

@@ -1,14 +1,14 @@
 -- Types that arguments leave as they are, and a class's own variables.
-use Rattle.std.proofs.Common.{◌≡◌, ℕ, ◌+◌, ◌<◌, zero, suc, List, [], ◌∷◌, ◌++◌, Result, Ok, Err, Some, None, map, refl, sym, ap, ◌∙◌, subst, arith}
-use Rattle.std.specs.Prelude.{slice_get, unwrap_or, IfOk}
+use Rattle.std.proofs.Common.{◌≡◌, ℕ, ◌+◌, zero, suc, List, [], ◌∷◌, ◌++◌, Result, Ok, Err, map, refl, sym, ap, ◌∙◌, subst, arith}
+use Rattle.std.specs.Prelude.{IfOk}
 use Rattle.java_tree.specs.declared.fault.NoMemory.{NoMemory}
 use Rattle.java_tree.specs.declared.tree.Primitive.{Primitive}
-use Rattle.class_world.specs.declared.world.JavaType.{JavaType, out-JavaType, roll-JavaType}
+use Rattle.class_world.specs.declared.world.JavaType.{JavaType, roll-JavaType}
 use Rattle.class_world.specs.declared.world.JavaType.TheVariants as ty
 use Rattle.class_world.specs.declared.world.JavaType.TheOpen as f
 use Rattle.class_world.specs.declared.world.JavaType.TheFolds.{fold-roll-JavaType, ind-JavaType, map-JavaType}
 use Rattle.class_world.specs.Types.{put, substitute, variables}
-use Rattle.class_world.proofs.Substs.{put_primitive, put_null, put_class, put_variable, put_array}
+use Rattle.class_world.proofs.Substs.{put_primitive, put_null, put_class, put_array}
 use Rattle.seen_methods.specs.Closed.{IsClosed, AreClosed}
 
 -- the first k variables and the next one

@@ -1,5 +1,5 @@
 -- What the answers say, from what is above a type.
-use Rattle.std.proofs.Common.{◌≡◌, ℕ, ◌<◌, ◌+◌, List, [], ◌∷◌, Option, Some, None, ◌⊎◌, ◌↔◌, inl, inr, map, refl, sym, ap, ◌∙◌, subst, length, arith}
+use Rattle.std.proofs.Common.{◌≡◌, ℕ, ◌<◌, ◌+◌, List, [], Option, Some, None, ◌⊎◌, ◌↔◌, inl, inr, map, refl, sym, ap, ◌∙◌, subst, length, arith}
 use Rattle.std.specs.Prelude.{slice_get, IfSome, IfNone}
 use Rattle.std.specs.Option.{option_map}
 use Rattle.std.proofs.lemmas.Option.{slice_get_within}
@@ -10,13 +10,13 @@ use Rattle.class_world.specs.declared.world.Above.{Above}
 use Rattle.class_world.specs.declared.world.JavaType.{JavaType}
 use Rattle.class_world.specs.declared.world.JavaType.TheVariants as ty
 use Rattle.class_world.specs.Types.{substitute, with_own}
-use Rattle.class_world.specs.Subtypes.{Subtype, through, raw, Parameterizes, IsSuperAs}
+use Rattle.class_world.specs.Subtypes.{Subtype, through, raw, IsSuperAs}
 use Rattle.class_world.specs.Sound.{IsSound, IsSet}
 use Rattle.class_world.specs.Signatures.{IsSeenWith, IsMethod, HasParams, HaveOneName, HaveOneSignatureIn, AgreeBelow}
 use Rattle.class_world.proofs.Forms.{same_class}
 use Rattle.seen_methods.specs.Seen.{HasResult, TellsParams, TellsResult}
 use Rattle.seen_methods.specs.Closed.{IsSeen, AreClosed}
-use Rattle.seen_methods.proofs.Fulls.{seen_from, one_seen, nothing}
+use Rattle.seen_methods.proofs.Fulls.{seen_from, one_seen}
 
 pub some_of : {A : Type 0} (o : Option A) (x : A) (P : A → Type 0) → o ≡ Some x → IfSome o P → P x
 some_of o x P e h = subst (λ o. IfSome o P) e h

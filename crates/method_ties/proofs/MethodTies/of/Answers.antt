@@ -1,4 +1,4 @@
-use Rattle.std.proofs.Common.{◌≡◌, ℕ, ◌≤◌, List, [], length, refl, arith}
+use Rattle.std.proofs.Common.{ℕ, List, [], length, refl, arith}
 use Rattle.std.proofs.lemmas.Option.{slice_get_within}
 use Rattle.method_ties.specs.declared.Meeting.{Meeting}
 use Rattle.method_ties.specs.Sides.{IsOnce}

@@ -1,5 +1,5 @@
 use Rattle.std.proofs.Common.{refl, arith}
-use Rattle.seen_methods.proofs.Tells.{AgreeAt, agree_all, agree_next, not_agree}
+use Rattle.seen_methods.proofs.Tells.{agree_all, agree_next, not_agree}
 use Rattle.seen_methods.proofs.agree.agree_below.Goals as goal
 use Rattle.seen_methods.proofs.agree.agree_below.Goals.{else-is_seen-via-then-is_seen+then-is_seen-2+in_ok-have_one_signature+else-not-branch, else-is_seen-via-then-is_seen+else-is_seen-2, else-is_seen-via-else-is_seen}
 

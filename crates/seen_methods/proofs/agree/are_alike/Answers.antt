@@ -1,7 +1,5 @@
-use Rattle.std.proofs.Common.{◌≡◌, List, ap, sym, subst, ◌∙◌}
+use Rattle.std.proofs.Common.{◌≡◌, ap, sym, subst, ◌∙◌}
 use Rattle.std.proofs.lemmas.Bool.{eqb-true}
-use Rattle.java_tree.specs.declared.tree.Name.{Name}
-use Rattle.class_world.specs.declared.world.JavaType.{JavaType}
 use Rattle.seen_methods.specs.Closed.{AreClosed}
 use Rattle.seen_methods.proofs.Tells.{alike_agree}
 use Rattle.seen_methods.proofs.agree.are_alike.Goals as goal

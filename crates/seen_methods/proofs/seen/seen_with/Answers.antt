@@ -1,7 +1,6 @@
 use Rattle.std.proofs.Common.{sym, subst}
 use Rattle.class_world.specs.Types.{IsTypeOver}
 use Rattle.class_world.proofs.Orders.{own_over}
-use Rattle.seen_methods.proofs.Tells.{super_seen}
 use Rattle.seen_methods.proofs.seen.seen_with.Goals as goal
 
 pub super_as-requires-clause-types : goal.super_as-requires-clause-types
