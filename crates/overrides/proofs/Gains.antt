@@ -19,7 +19,7 @@ use Rattle.overrides.proofs.Belows.{at_once_within, overriding_within}
 pub step_none : (t : Rows) → IsStep t t false
 step_none t = record { grows = λ m k h. h; gains = λ e. absurd (cc e); same = λ e. refl }
 
-pub step_on : {a b c : Rows} {x : Bool} → IsStep a b x → IsStep b c true → IsStep a c true
+step_on : {a b c : Rows} {x : Bool} → IsStep a b x → IsStep b c true → IsStep a c true
 step_on {a = a} {b = b} {c = c} first second =
     let gains = second.gains refl in
     record {
@@ -28,7 +28,7 @@ step_on {a = a} {b = b} {c = c} first second =
       same = λ e. absurd (cc e);
     }
 
-pub step_still : {a b c : Rows} {x : Bool} → IsStep a b x → IsStep b c false → IsStep a c x
+step_still : {a b c : Rows} {x : Bool} → IsStep a b x → IsStep b c false → IsStep a c x
 step_still {a = a} {b = b} {c = c} {x = x} first second = subst (λ t. IsStep a t x) (sym (second.same refl)) first
 
 pub same_size : {n : ℕ} {old new : Rows} → IsOfSize n old → IsOfSize n new → AreOfOneSize old new

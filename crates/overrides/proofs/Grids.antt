@@ -14,17 +14,17 @@ use Rattle.overrides.specs.Tables.{IsTable, IsWritten, IsBegun, value_of}
 abbrev pub PutsValue : Memory → Memory → Map → Map → ℕ → Option ℕ → Type 0
 PutsValue old new map put key value = (k : ℕ) → k < old.keys → value_in new put k ≡ (if k == key then value else value_in old map k)
 
-pub put_here : (old new : Memory) (map put : Map) (key : ℕ) (value : Option ℕ) → key < old.keys → PutsValue old new map put key value → value_in new put key ≡ value
+put_here : (old new : Memory) (map put : Map) (key : ℕ) (value : Option ℕ) → key < old.keys → PutsValue old new map put key value → value_in new put key ≡ value
 put_here old new map put key value lt puts = puts key lt ∙ cond-true (key == key) value (value_in old map key) (eq-eqb key key refl)
 
-pub put_there : (old new : Memory) (map put : Map) (key : ℕ) (value : Option ℕ) → new.keys ≡ old.keys → PutsValue old new map put key value → (k : ℕ) → (k ≡ key → ⊥)
+put_there : (old new : Memory) (map put : Map) (key : ℕ) (value : Option ℕ) → new.keys ≡ old.keys → PutsValue old new map put key value → (k : ℕ) → (k ≡ key → ⊥)
     → value_in new put k ≡ value_in old map k
 put_there old new map put key value keys puts k other = elim (cases_lt k old.keys) [
   | inl lt ↦ puts k lt ∙ cond-false (k == key) value (value_in old map k) (ne_eqb k key other)
   | inr le ↦ value_outside new put k (omega (arith, le, keys)) ∙ sym (value_outside old map k le)
 ]
 
-pub value_kept : (old new : Memory) (rows : List Map) → IsTable old rows → KeepsMaps old new → (a b : ℕ) → value_of new (slice_get rows a) b ≡ value_of old (slice_get rows a) b
+value_kept : (old new : Memory) (rows : List Map) → IsTable old rows → KeepsMaps old new → (a b : ℕ) → value_of new (slice_get rows a) b ≡ value_of old (slice_get rows a) b
 value_kept old new rows table kept a b = go (slice_get rows a) refl
   where
     go : (o : Option Map) → slice_get rows a ≡ o → value_of new o b ≡ value_of old o b

@@ -50,7 +50,7 @@ module _ (old : List ℕ) (members : List (List ℕ)) (from into : ℕ) (moved r
   }
 
   -- a number that moves had the old label
-  pub moving_at : (j m : ℕ) → slice_get moved j ≡ Some m → slice_get old m ≡ Some from
+  moving_at : (j m : ℕ) → slice_get moved j ≡ Some m → slice_get old m ≡ Some from
   moving_at j m at = (groups.each m from).1 (moved, is_moved, at_contains moved m j at)
 
   module _ (new : List ℕ) (now : List (List ℕ)) (i m : ℕ) (moving : IsMoving old new members now from into moved row i) (at : slice_get moved i ≡ Some m) where

@@ -42,7 +42,7 @@ pub struct Overrides {
 impl Overrides {
     /// What the methods of a sound world override. `NoMemory` also where it has 2^32 methods or types.
     ///
-    /// Takes a few rounds over all methods, with a look at each pair of a method and one that it overrides; how many, and what each takes, stands at the rounds.
+    /// Takes the time of some rounds, mostly two or three. In each it looks, for each method and each that it overrides at once, at all that this one overrides, each time at as many nodes as method numbers have bits.
     pub fn of(alloc: Global, w: &World, ties: &MethodTies) -> Result<Overrides, NoMemory>
         requires sound { IsSound w.now }
         requires ties { HoldsTies w.now ties.now }

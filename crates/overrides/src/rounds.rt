@@ -18,7 +18,9 @@ use std::alloc::Global;
 
 /// Adds what each method overrides, in rounds over all methods, until a round adds nothing.
 ///
-/// Where those of supertypes come first, a round takes over what the methods above override, so that one round adds all but what goes round in a circle, as over the methods of Object that interfaces declare again. Real programs take two or three rounds. A round looks, for each method and each that it overrides at once, at all that this one overrides.
+/// Where the methods of supertypes come first, one round takes over all that comes from methods whose place is taken. A method that a class has beside an interface's can take one more, and so can a circle, as over methods of Object that interfaces declare again; the last round adds nothing. So two or three rounds are the rule.
+///
+/// A round looks, for each method and each that it overrides at once, at all that this one overrides: a look-up each, and `agree_below` where it is not known and was not found to hold before.
 pub(crate) fn add_all(
     alloc: Global,
     w: &World,
