@@ -38,7 +38,7 @@ pub record IsMoving (old new : List ℕ) (members now : List (List ℕ)) (from i
 
 module _ (old : List ℕ) (members : List (List ℕ)) (from into : ℕ) (moved row : List ℕ) (groups : AreGroups old members) (two : from ≡ into → ⊥)
     (is_moved : slice_get members from ≡ Some moved) (is_row : slice_get members into ≡ Some row) where
-  pub moving_begins : IsMoving old old members (slice_set members from []) from into moved row 0
+  pub moving_begins : IsMoving old old members (slice_set members from []) from into moved row (0)
   moving_begins = record {
     size = refl;
     lists = length_set members from [];
