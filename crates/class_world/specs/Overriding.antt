@@ -51,7 +51,7 @@ abbrev pub AreInstanceMethods : World → ℕ → ℕ → Type 0
 AreInstanceMethods w m k = IsInstanceMethod w m × IsInstanceMethod w k
 
 -- The method m overrides k at once: where it is declared it takes its place (8.4.8.1); or some class has m from its superclass and k from an interface (8.4.8.4), if both
--- have one signature in each type below those that declare them (in the first case they have).
+-- have one signature in each type below those that declare them (in the first case they have, where parameter types hold their own type's variables alone).
 pub data OverridesAtOnce (w : World) (m k : ℕ) : Type 0 where
   declared : {c : ℕ} → Replaces w c m k → AreInstanceMethods w m k → OverridesAtOnce w m k
   inherited : {c : ℕ} → MeetIn w c m k → AreInstanceMethods w m k → AgreeBelow w m k → OverridesAtOnce w m k
