@@ -12,6 +12,7 @@ from typing import NamedTuple
 
 import grows
 import lines
+import programs
 
 
 class Case(NamedTuple):
@@ -23,11 +24,11 @@ class Case(NamedTuple):
     kind: str
 
 
-def make_case(chance):
-    """One case, from a source of chance alone."""
-    way = pick(chance, [
+def make_case(chance, way=None):
+    """One case, from a source of chance alone; of a given way, where one is named."""
+    way = globals()[way] if way else pick(chance, [
         (46, right_case), (20, spoiled_case), (7, token_case), (8, byte_case), (1.5, junk_case), (12, words_case),
-        (5, folder_case), (1, full_case), (0.5, large_case), (25, line_case), (14, files_case), (30, whole_case),
+        (5, folder_case), (1, full_case), (0.5, large_case), (25, line_case), (14, files_case), (30, whole_case), (60, program_case),
         (0.3, many_files_case), (0.2, much_case),
     ])
     return way(chance)
@@ -125,6 +126,14 @@ def files_case(chance):
     folders = [name for name in folders if not any(name == each or each.startswith(name + "/") or name.startswith(each + "/")
                                                    for each in files)]
     return Case([encode(word) for word in line.words()], files, folders, False, "several files")
+
+
+def program_case(chance):
+    """A program of several files, with library files, that breaks none or a few rules on declarations."""
+    files = programs.random_program(chance)
+    users, libraries = ([name for name, is_user, _ in files if is_user is kind] for kind in (True, False))
+    words = ["generalize", "out", users[0], "1", "1", "Object", "--", *users, *(["+", *libraries] if libraries else [])]
+    return Case([encode(word) for word in words], {name: text for name, _, text in files}, [], False, "program of several files")
 
 
 def whole_case(chance):

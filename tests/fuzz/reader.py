@@ -8,6 +8,7 @@ import bisect
 import re
 from typing import NamedTuple, Optional, Union
 
+import declares
 import lexing
 import trees
 
@@ -74,6 +75,7 @@ def answer(words, files, folders):
         count = 0
         for name, text in zip(request.inputs, texts):
             count += tokens_in_file(name, text, count)
+        require_declarations(request, texts)
     except Stopped as stop:
         return stop.answer
     try:
@@ -221,12 +223,14 @@ class Request(NamedTuple):
     column: int
     target: str
     inputs: list
+    users: int
 
 
 def read_request(words):
     command = read_command(words)
     out, file, line, column, target = [word for _, word in command.own]
-    return Request(out, file, int(line), int(column), target, command.users + command.libs)
+    return Request(out, file, int(line), int(column), target, command.users + command.libs,
+                   len(command.users))
 
 
 def is_path(word):
@@ -331,6 +335,14 @@ def tokens_in_file(name, text, count):
         reports = [b"refused G1 %s:%d:%d\n" % (name.encode(), *lines.place(at)) for at in places]
         raise Stopped(Answer("G1", REFUSED, reports[0], {}, str(reason), frozenset(reports))) from None
     return len(tokens)
+
+
+def require_declarations(request, texts):
+    """The rules on the declarations of all files."""
+    broken = declares.first_broken(texts, request.users)
+    if broken is not None:
+        rule, file, at = broken
+        raise Stopped(refused(rule, "-" if file is None else place_of(request.inputs[file], texts[file], at)))
 
 
 # Lines and columns.

@@ -1,14 +1,14 @@
 -- Lists that are made from the rows of a table, one by one.
-use Rattle.std.proofs.Common.{◌≡◌, ℕ, ◌+◌, ◌<◌, ◌==◌, true, false, if◌then◌else◌, List, [], ◌∷◌, ◌++◌, map, drop, get_or, length, slice_get, zero, suc, Option, Some, None, inl, inr, subst, refl, sym, ap, ◌∙◌, arith}
+use Rattle.std.proofs.Common.{◌≡◌, ℕ, ◌+◌, ◌<◌, ◌≤◌, ◌==◌, true, false, if◌then◌else◌, List, [], ◌∷◌, ◌++◌, map, drop, get_or, length, slice_get, zero, suc, Option, Some, None, inl, inr, subst, refl, sym, ap, ◌∙◌, arith}
 use Rattle.std.proofs.lemmas.Bool.{cases_lt}
 use Rattle.std.proofs.lemmas.Bool.Decides.{nat_tests}
-use Rattle.std.proofs.lemmas.List.{drop_more, append_assoc}
+use Rattle.std.proofs.lemmas.List.{drop_more, drop_all, append_assoc}
 use Rattle.java_tree.specs.declared.tree.Name.{Name}
-use Rattle.java_tree.specs.Names.{IsFront}
+use Rattle.java_tree.specs.Names.{IsFront, with_text}
 use Rattle.class_world.specs.declared.world.TypeInfo.{TypeInfo}
 use Rattle.built_in_types.specs.declared.words.Words.{Words}
 use Rattle.built_in_types.specs.declared.rows.Row.{Row}
-use Rattle.built_in_types.specs.BuiltIns.{owned_from, type_info, types_from}
+use Rattle.built_in_types.specs.BuiltIns.{owned_from, type_info, types_from, with_texts}
 
 pub pushed : {A : Type 0} (xs ys zs : List A) (x : A) → ys ≡ xs ++ x ∷ [] → ys ++ zs ≡ xs ++ x ∷ zs
 pushed xs ys zs x e = ap (λ l. l ++ zs) e ∙ append_assoc xs (x ∷ []) zs
@@ -70,3 +70,13 @@ word_more ts old new xs ys x t front push at given before k u low e = elim (case
         given ∙ sym (subst (λ j. slice_get ts j ≡ Some t) same at) ∙ e,
       )
 ]
+
+-- the table with one more text, and then with those behind it
+pub interned_more : (ts names : List (List ℕ)) (i : ℕ) → i < length ts → with_texts (drop (i + 1) ts) (with_text (get_or ts i []) names) ≡ with_texts (drop i ts) names
+unfolding with_texts
+interned_more ts names i h = ap (λ l. with_texts l names) (sym (drop_more ts i [] h))
+
+-- the table with no more texts
+pub interned_all : (ts names : List (List ℕ)) (i : ℕ) → length ts ≤ i → with_texts (drop i ts) names ≡ names
+unfolding with_texts
+interned_all ts names i h = ap (λ l. with_texts l names) (drop_all i ts h)

@@ -1,7 +1,8 @@
 -- The built-in types with their members. A type's number is also that of its name (java_tree's `built_in_names`).
-use Rattle.std.specs.Prelude.{◌≡◌, ℕ, ◌+◌, false, if◌then◌else◌, ◌==◌, ◌||◌, is_none, List, [], ◌∷◌, ◌++◌, map, flat_map, Option, Some, None, option_to_list, slice_get, unwrap_or, codes}
+use Rattle.std.specs.Prelude.{◌≡◌, ℕ, ◌+◌, false, if◌then◌else◌, ◌==◌, ◌||◌, is_none, List, [], ◌∷◌, ◌++◌, map, flat_map, Option, Some, None, option_to_list, slice_get, unwrap_or, length, codes}
 use Rattle.std.specs.Option.{option_map}
 use Rattle.java_tree.specs.declared.tree.Name.{Name}
+use Rattle.java_tree.specs.Names.{with_text}
 use Rattle.java_tree.specs.declared.tree.Mod.{Mod}
 use Rattle.java_tree.specs.declared.tree.Mod.TheVariants as mods
 use Rattle.java_tree.specs.declared.tree.Primitive.TheVariants as prim
@@ -27,8 +28,18 @@ texts =
 abbrev pub AreNumbered : (names ts : List (List ℕ)) → List Name → Type 0
 AreNumbered names ts ns = (k : ℕ) (text : List ℕ) → slice_get ts k ≡ Some text → (n : Name) × (slice_get ns k ≡ Some n) × (slice_get names n.0 ≡ Some text)
 
+-- one number for each of the texts
 abbrev pub AreWords : (names : List (List ℕ)) → Words → Type 0
-AreWords names w = AreNumbered names texts w.names
+AreWords names w = (length w.names ≡ length texts) × AreNumbered names texts w.names
+
+-- the table with each of these texts in turn: a new one comes last
+unfoldable pub with_texts : (ts names : List (List ℕ)) → List (List ℕ)
+with_texts [] names = names
+with_texts (t ∷ ts) names = with_texts ts (with_text t names)
+
+-- the table with the names that the built-in types need
+abbrev pub with_words : List (List ℕ) → List (List ℕ)
+with_words = with_texts texts
 
 -- the place of a word among them
 abbrev pub place : Word → ℕ

@@ -1,8 +1,8 @@
 //! The names of packages and members that the built-in types have.
 
-ghost use Rattle.std.specs.Prelude.{◌≡◌, ◌+◌, ◌<◌, ◌≤◌, ◌^◌, length, map, IfOk};
+ghost use Rattle.std.specs.Prelude.{◌≡◌, ◌+◌, ◌<◌, ◌≤◌, ◌^◌, length, map, IfOk, OnOk};
 ghost use Rattle.java_tree.specs.Names.{IsFront};
-ghost use Rattle.built_in_types.specs.BuiltIns.{AreNumbered, AreWords, name_of, place};
+ghost use Rattle.built_in_types.specs.BuiltIns.{AreNumbered, AreWords, name_of, place, with_texts, with_words};
 
 use java_tree::tree::Name;
 use java_tree::{Items, Names, NoMemory};
@@ -78,6 +78,8 @@ pub struct Words {
 fn intern_all(alloc: Global, names: &mut Names, texts: &[&str]) -> Result<Items<Name>, NoMemory>
     requires { length names.old + length texts.now < 2 ^ 32 }
     ensures numbers { IfOk result (λ ns. AreNumbered names.new (map (λ t. t.now) texts.now) ns) }
+    ensures long { IfOk result (λ ns. length ns ≡ length texts.now) }
+    ensures table { OnOk result (names.new ≡ with_texts (map (λ t. t.now) texts.now) names.old) }
     ensures kept { IsFront names.old names.new }
     ensures few { length names.new ≤ length names.old + length texts.now }
 {
@@ -89,10 +91,11 @@ fn intern_all(alloc: Global, names: &mut Names, texts: &[&str]) -> Result<Items<
 }
 
 impl Words {
-    /// The numbers of the names in a table, which gets those that it has not: at most 14.
+    /// The numbers of the names in a table, which gets those that it has not: at most 14, in the order of these names.
     pub fn of(alloc: Global, names: &mut Names) -> Result<Words, NoMemory>
         requires { length names.old + 14 < 2 ^ 32 }
         ensures words { IfOk result (λ w. AreWords names.new w) }
+        ensures table { OnOk result (names.new ≡ with_words names.old) }
         ensures kept { IsFront names.old names.new }
         ensures few { length names.new ≤ length names.old + 14 }
     {

@@ -24,3 +24,4 @@ pub mod Ways
 pub mod Frames
 pub mod Heights
 pub mod Singles
+pub mod Meets

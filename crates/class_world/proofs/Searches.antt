@@ -57,7 +57,7 @@ none_seen zero c e = absurd (cc e)
 none_seen (suc n) zero e = absurd (cc e)
 none_seen (suc n) (suc c) e = none_seen n c e
 
-length_replicate : (n : ℕ) (b : Bool) → length (replicate n b) ≡ n
+pub length_replicate : (n : ℕ) (b : Bool) → length (replicate n b) ≡ n
 length_replicate zero b = refl
 length_replicate (suc n) b = ap suc (length_replicate n b)
 

@@ -1,5 +1,5 @@
 -- Which of several members of one signature counts: of methods that a type has from several sides one is its member for a call (JLS 8.4.8.4).
-use Rattle.std.specs.Prelude.{◌≡◌, ℕ, ◌<◌, ◌↔◌, List, [], length}
+use Rattle.std.specs.Prelude.{ℕ, ◌<◌, ◌↔◌, List, []}
 use Rattle.std.specs.List.{Contains}
 use Rattle.java_tree.specs.declared.tree.Name.{Name}
 use Rattle.class_world.specs.declared.world.World.{World}

@@ -9,6 +9,7 @@ pub mod Seen
 pub mod Sequences
 pub mod Sorts
 pub mod Ordered
+pub mod Meets
 pub mod Subclasses
 pub mod Members
 pub mod Lookup

@@ -9,7 +9,7 @@ use Rattle.class_world.specs.declared.world.JavaType.{JavaType}
 use Rattle.class_world.specs.declared.world.JavaType.TheVariants as ty
 use Rattle.class_world.specs.Subclasses.{IsDirectSuper}
 use Rattle.class_world.specs.Types.{substitute}
-use Rattle.class_world.specs.Signatures.{IsMethod, IsSeenWith, HaveOneSignatureIn, AgreeBelow}
+use Rattle.class_world.specs.Signatures.{IsMethod, HaveOneSignatureIn, AgreeBelow}
 use Rattle.class_world.specs.Access.{IsInterface}
 use Rattle.class_world.specs.Inheritance.{DeclaresMethod, IsDirectlyAbove, IsPrivateMethod, Inherits, IsMemberMethod}
 
@@ -39,13 +39,10 @@ InheritsBoth w c m k =
 abbrev pub Replaces : World → ℕ → ℕ → ℕ → Type 0
 Replaces w c m k = DeclaresMethod w c m × ((s : ℕ) × IsDirectlyAbove w c s × IsMemberMethod w s k) × (IsPrivateMethod w k → ⊥) × HaveOneSignatureIn w c m k
 
--- the type that declares m is the one that declares k, or below it
-abbrev pub IsDeclaredBelow : World → ℕ → ℕ → Type 0
-IsDeclaredBelow w m k = (i : MethodInfo) × (j : MethodInfo) × IsMethod w m i × IsMethod w k j × ((args : List JavaType) × IsSeenWith w i.owner j.owner args)
-
--- the class c has the methods m and k from both sides, with one signature; m's own type is not below k's
+-- The class c has two methods of one signature from both sides, whatever their own types are to each other. (One of Object's methods, which an interface without superinterfaces
+-- hands down too, is one method, and does not meet itself.)
 abbrev pub MeetIn : World → ℕ → ℕ → ℕ → Type 0
-MeetIn w c m k = InheritsBoth w c m k × (IsDeclaredBelow w m k → ⊥) × HaveOneSignatureIn w c m k
+MeetIn w c m k = InheritsBoth w c m k × (m ≡ k → ⊥) × HaveOneSignatureIn w c m k
 
 abbrev pub AreInstanceMethods : World → ℕ → ℕ → Type 0
 AreInstanceMethods w m k = IsInstanceMethod w m × IsInstanceMethod w k

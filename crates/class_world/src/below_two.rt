@@ -1,6 +1,6 @@
 //! Classes below two parameterizations of one class (JLS 3rd edition, 8.1.5), in a world whose order may be broken.
 
-ghost use Rattle.std.specs.Prelude.{◌≡◌, ℕ, ◌<◌, ◌^◌, ◌⊎◌, Some, length, map, nat_lt, slice_get, IsTrue, IfOk, IfNone};
+ghost use Rattle.std.specs.Prelude.{◌≡◌, ℕ, ◌<◌, ◌^◌, List, Some, true, length, map, nat_lt, slice_get, IsTrue, IfOk, OnOk, IfNone};
 ghost use Rattle.class_world.specs.Types.{variables};
 ghost use Rattle.class_world.specs.Sound.{HaveClassSupers};
 ghost use Rattle.class_world.specs.declared.world.TypeInfo.{TypeInfo};
@@ -8,7 +8,13 @@ ghost use Rattle.class_world.specs.Merged.{HasPlaces};
 ghost use Rattle.class_world.specs.Graphs.{AreClassesOf, IsSuperGraph};
 ghost use Rattle.class_world.specs.Climbs.{Climbs, Collide, FlagBases, HasOneWay, IsClassType};
 ghost use Rattle.class_world.specs.Ordered.{IsClassBelowTwo, IsFirstBelowTwo, IsSingleClass};
+ghost use Rattle.class_world.specs.Subclasses.{IsDirectSuper};
+ghost use Rattle.class_world.specs.Meets.{AreClassRows, ArePaths, MarkDoubled};
+ghost use Rattle.class_world.specs.declared.world.JavaType.TheVariants as ty;
 
+use crate::class_rows::{ClassRows, class_rows};
+use crate::joins::is_single_join;
+use crate::paths::Paths;
 use crate::sequence::{Sorted, sort};
 use crate::supers::{declared_super, supers_of};
 use crate::table::{add, class_of, is_marked, listed};
@@ -17,7 +23,11 @@ use java_tree::{Items, NoMemory};
 use std::alloc::Global;
 use type_reach::{Graph, reaching};
 
-/// The first class, by number, that is below two parameterizations of one class. Takes time for the types and their declared supertypes; for each class with two of them that are generic or below a generic class also the time of going over the declared supertypes of what is above it; and where a class is above itself, or one is found, so for each class that is generic or below a generic one.
+/// The first class, by number, that is below two parameterizations of one class.
+///
+/// Takes time for the types and their declared supertypes, and memory for a bit for each pair of classes. Each declared supertype takes that of as many words as there are classes by 64; at a class that joins two ways up to generic classes it takes that again for each class where its way up first meets an earlier one, up to sixteen of them. Each step up to such a meet is gone once for a class and a meet.
+///
+/// It goes over the declared supertypes of all that is above a class for a join that has more meets, that is below a raw type, or for whose steps there is no room left, which is for 64 of them a class; for each class that declares a supertype of a class that is below two; and where a class is above itself, for each class that is generic or below a generic one.
 pub fn first_below_two(alloc: Global, w: &World) -> Result<Option<u32>, NoMemory>
     requires supers { HaveClassSupers w.now }
     requires few { length w.now.types < 2 ^ 32 }
@@ -34,10 +44,14 @@ pub(crate) fn first_doubled(alloc: Global, w: &World) -> Result<Option<u32>, NoM
     ensures single { IfOk result (λ o. IfNone o ((c : ℕ) → IsSingleClass w.now c)) }
 {
     let flags = base_flags(alloc, w)?;
-    if are_single(alloc, w, flags.as_slice())? {
-        Ok(None)
-    } else {
-        search(alloc, w, flags.as_slice())
+    let flags = flags.as_slice();
+    match sort(alloc, w)? {
+        Sorted::AboveItself(_) => search(alloc, w, flags),
+        Sorted::Sequence(listed) => {
+            let rows = class_rows(alloc, w, flags, listed)?;
+            let doubled = doubled_classes(alloc, w, flags, &rows)?;
+            Ok(first_marked(w, doubled.as_slice()))
+        }
     }
 }
 
@@ -52,39 +66,84 @@ fn base_flags(alloc: Global, w: &World) -> Result<Vec<bool>, NoMemory>
     Ok(flags)
 }
 
-/// A quick test, right where it says yes: no class is above itself, and none that joins two ways up is below two parameterizations of one class. With one way up a class has no more than the class above.
-fn are_single(alloc: Global, w: &World, flags: &[bool]) -> Result<bool, NoMemory>
-    requires supers { HaveClassSupers w.now }
-    requires few { length w.now.types < 2 ^ 32 }
-    requires flags { FlagBases w.now flags.now }
-    ensures { IfOk result (λ r. IsTrue r → (c : ℕ) → IsSingleClass w.now c) }
-{
-    let listed = match sort(alloc, w)? {
-        Sorted::AboveItself(_) => return Ok(false),
-        Sorted::Sequence(listed) => listed,
-    };
-    let single = are_joins_single(alloc, w, flags, listed.as_slice())?;
-    Ok(single)
-}
-
-/// Whether none of the listed classes that join two ways up is below two parameterizations of one class.
-fn are_joins_single(
+/// For each class whether it is below two parameterizations of one class. Where its declared supertypes' classes are not, it takes more than one way up to be so.
+fn doubled_classes(
     alloc: Global,
     w: &World,
     flags: &[bool],
-    listed: &[u32],
-) -> Result<bool, NoMemory>
+    rows: &ClassRows,
+) -> Result<Vec<bool>, NoMemory>
     requires supers { HaveClassSupers w.now }
-    ensures { IfOk result (λ r. IsTrue r → (i c : ℕ) → slice_get listed.now i ≡ Some c → IsSingleClass w.now c ⊎ HasOneWay w.now flags.now c) }
+    requires flags { FlagBases w.now flags.now }
+    requires rows { AreClassRows w.now rows.now }
+    ensures { IfOk result (λ v. MarkDoubled w.now v.items) }
 {
+    let mut paths = Paths::new(alloc);
     let mut places = vec![in alloc; 0usize; w.types.len()]?;
     let places = places.as_mut_slice();
-    for c in listed {
-        if joins(w, flags, *c) && is_below_two(alloc, w, places, *c)? {
-            return Ok(false);
+    let mut doubled = vec![in alloc; false; w.types.len()]?;
+    for c in rows.listed.as_slice() {
+        if !is_known_single(alloc, w, flags, rows, &mut paths, doubled.as_slice(), *c)?
+            && is_below_two(alloc, w, places, *c)?
+        {
+            doubled[*c as usize] = true;
         }
     }
-    Ok(true)
+    Ok(doubled)
+}
+
+/// A quick test, right where it says yes: the class is below at most one parameterization of each class.
+fn is_known_single(
+    alloc: Global,
+    w: &World,
+    flags: &[bool],
+    rows: &ClassRows,
+    paths: &mut Paths,
+    doubled: &[bool],
+    c: u32,
+) -> Result<bool, NoMemory>
+    requires supers { HaveClassSupers w.now }
+    requires flags { FlagBases w.now flags.now }
+    requires rows { AreClassRows w.now rows.now }
+    requires paths { ArePaths w.now paths.old }
+    requires told { (g : ℕ) (args : List JavaType) → IsDirectSuper w.now c (ty.Class g args) → (slice_get doubled.now g ≡ Some true → ⊥) → IsSingleClass w.now g }
+    ensures single { IfOk result (λ r. IsTrue r → IsSingleClass w.now c) }
+    ensures paths { OnOk result (ArePaths w.now paths.new) }
+{
+    if has_marked_super(w, doubled, c) {
+        return Ok(false);
+    }
+    if !joins(w, flags, c) {
+        return Ok(true);
+    }
+    let single = is_single_join(alloc, w, rows, paths, c)?;
+    Ok(single)
+}
+
+fn has_marked_super(w: &World, marks: &[bool], c: u32) -> bool
+    ensures { (IsTrue result → ⊥) → (g : ℕ) (args : List JavaType) → IsDirectSuper w.now c (ty.Class g args) → slice_get marks.now g ≡ Some true → ⊥ }
+{
+    for d in supers_of(w, c) {
+        if is_marked(marks, class_of(d)) {
+            return true;
+        }
+    }
+    false
+}
+
+/// The first class that is marked, by number.
+fn first_marked(w: &World, doubled: &[bool]) -> Option<u32>
+    requires few { length w.now.types < 2 ^ 32 }
+    requires doubled { MarkDoubled w.now doubled.now }
+    ensures first { IsFirstBelowTwo w.now result }
+    ensures single { IfNone result ((c : ℕ) → IsSingleClass w.now c) }
+{
+    for c in 0..w.types.len() as u32 {
+        if is_marked(doubled, c) {
+            return Some(c);
+        }
+    }
+    None
 }
 
 /// Whether the flags of more than one declared supertype's class are set.

@@ -24,9 +24,9 @@ pub(crate) fn has_base(w: &World, c: u32, raw: bool, g: u32) -> bool
     match w.above.get(c as usize) {
         Some(row) => {
             if raw {
-                is_set(row.raw_bases.as_slice(), g)
+                is_set(row.raw_bases.as_slice(), g as usize)
             } else {
-                is_generic(w, g) && is_set(row.types.as_slice(), g)
+                is_generic(w, g) && is_set(row.types.as_slice(), g as usize)
             }
         }
         None => false,

@@ -2,22 +2,21 @@
 #![tactic(auto)]
 
 pub mod access;
-#[cfg(test)]
-mod access_tests;
 mod below_two;
+mod class_rows;
 mod climb;
+mod joins;
 pub mod laws;
 mod members;
 mod order;
 mod order_table;
+mod paths;
 mod rows;
 mod seen;
 mod sequence;
 mod subtypes;
 mod supers;
 mod table;
-#[cfg(test)]
-mod tests;
 mod types;
 pub mod world;
 

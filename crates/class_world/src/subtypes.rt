@@ -110,7 +110,7 @@ fn is_class_above(w: &World, c: u32, g: u32) -> bool
     ensures { (args : List JavaType) → IsTrue result ↔ Subtype w.now (ty.Class c args) (ty.Class g []) }
 {
     match w.above.get(c as usize) {
-        Some(row) => is_set(row.types.as_slice(), g),
+        Some(row) => is_set(row.types.as_slice(), g as usize),
         None => false,
     }
 }

@@ -47,10 +47,10 @@ pub(crate) fn set_both(words: &mut [u64], more: &[u64], mask: &[u64])
 }
 
 /// Whether the bit `g` is set, of 64 to a word.
-pub(crate) fn is_set(words: &[u64], g: u32) -> bool
+pub(crate) fn is_set(words: &[u64], g: usize) -> bool
     ensures { IsTrue result ↔ IsSet words.now g }
 {
-    match words.get(g as usize / 64) {
+    match words.get(g / 64) {
         Some(word) => (*word >> (g % 64)) & 1 == 1,
         None => false,
     }

@@ -5,8 +5,6 @@ mod names;
 mod request;
 mod rules;
 mod table;
-#[cfg(test)]
-mod tests;
 mod word_set;
 
 pub use names::{is_identifier, number};

@@ -1,8 +1,7 @@
--- Which names mean generic types.
-use Rattle.std.specs.Prelude.{Bool, nat_eq}
-use Rattle.std.specs.HashSet.{contains}
+-- Which names mean generic types in a file, by what is answered of each.
+use Rattle.std.specs.Prelude.{◌≡◌, Bool}
 use Rattle.java_tree.specs.declared.tree.Name.{Name}
-use Rattle.decl_rules.specs.declared.generics.GenericNames.{GenericNames}
 
-abbrev pub is_generic : GenericNames → Name → Bool
-is_generic g n = contains nat_eq g.names n.0
+-- each answer about a name is what this says of it
+pub record Told (answers : Name → Bool → Type 0) (generic : Name → Bool) : Type 0 where
+  pub tells : (n : Name) (is : Bool) → answers n is → is ≡ generic n

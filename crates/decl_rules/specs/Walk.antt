@@ -10,8 +10,6 @@ use Rattle.java_tree.specs.Plain as t
 use Rattle.java_tree.specs.Plain.{TypeExpr, TypeExprs, Expr, MaybeExpr, Exprs, Var, Param, Stmt, MaybeStmt, Stmts, Group, Groups, Catch, Catches, Member, TypeDecl, SourceUnit}
 use Rattle.rule_order.specs.declared.Breach.{Breach}
 use Rattle.rule_order.specs.Noted.{noted}
-use Rattle.decl_rules.specs.declared.generics.Generics.{Generics}
-use Rattle.decl_rules.specs.Generic.{is_generic}
 use Rattle.decl_rules.specs.Parts.{node_of, head_of, dims_of}
 
 -- ---- the walk
@@ -40,9 +38,6 @@ names_generic generic vars _ = false
 -- the test of S12 on an argument
 abbrev pub is_nested : (generic : Name → Bool) → (vars : List Name) → TypeExpr → Bool
 is_nested generic vars x = nat_lt 0 (dims_of x) || names_generic generic vars (head_of x)
-
-abbrev pub test_of : Generics → TypeExpr → Bool
-test_of g = is_nested (is_generic g.names.now) g.vars.now
 
 abbrev pub nested : (test : TypeExpr → Bool) → Walk TypeExprs
 nested test t.NoTypes a = a

@@ -1,11 +1,13 @@
 //! The walk over the written types in expressions (S12, S13, S17).
 
-ghost use Rattle.std.specs.Prelude.{◌≡◌};
+ghost use Rattle.std.specs.Prelude.{◌≡◌, Bool};
 ghost use Rattle.std.specs.Option.{option_map};
 ghost use Rattle.java_tree.specs.View.{plain, plains, maybe};
+ghost use Rattle.java_tree.specs.declared.tree.Name.{Name};
+ghost use Rattle.decl_rules.specs.Generic.{Told};
 ghost use Rattle.decl_rules.specs.Walk as spec;
 
-use crate::generics::Generics;
+use crate::generics::{GenericNames, Generics};
 use crate::types::{walk_element, walk_type};
 use java_tree::tree::{Expr, ExprForm};
 use java_tree::{Boxed, Items};
@@ -14,8 +16,12 @@ use rule_order::Breach;
 /// An expression and all that is in it.
 #[cycle(exprs)]
 #[tactic(auto, using(tree_numbers::proofs::Forms::plain_call))]
-pub(crate) fn walk_expr(generics: &Generics<'_>, e: &Expr, first: Option<Breach>) -> Option<Breach>
-    ensures { result ≡ spec.expr (spec.test_of generics.now) (plain e.now) first }
+pub(crate) fn walk_expr<G: GenericNames>(
+    generics: &Generics<'_, G>,
+    e: &Expr,
+    first: Option<Breach>,
+) -> Option<Breach>
+    ensures { (generic : Name → Bool) → Told (G.answers generics.now.names.now) generic → result ≡ spec.expr (spec.is_nested generic generics.now.vars.now) (plain e.now) first }
 {
     match &e.form {
         ExprForm::Number { .. }
@@ -79,12 +85,12 @@ pub(crate) fn walk_expr(generics: &Generics<'_>, e: &Expr, first: Option<Breach>
 
 /// The target of a call, if it has one.
 #[cycle(exprs)]
-fn walk_maybe(
-    generics: &Generics<'_>,
+fn walk_maybe<G: GenericNames>(
+    generics: &Generics<'_, G>,
     e: &Option<Boxed<Expr>>,
     first: Option<Breach>,
 ) -> Option<Breach>
-    ensures { result ≡ spec.maybe (spec.test_of generics.now) (maybe (option_map plain e.now)) first }
+    ensures { (generic : Name → Bool) → Told (G.answers generics.now.names.now) generic → result ≡ spec.maybe (spec.is_nested generic generics.now.vars.now) (maybe (option_map plain e.now)) first }
 {
     match e {
         None => first,
@@ -94,12 +100,12 @@ fn walk_maybe(
 
 /// Each of a list.
 #[cycle(exprs)]
-pub(crate) fn walk_exprs(
-    generics: &Generics<'_>,
+pub(crate) fn walk_exprs<G: GenericNames>(
+    generics: &Generics<'_, G>,
     es: &Items<Expr>,
     mut first: Option<Breach>,
 ) -> Option<Breach>
-    ensures { result ≡ spec.exprs (spec.test_of generics.now) (plains es.now) first }
+    ensures { (generic : Name → Bool) → Told (G.answers generics.now.names.now) generic → result ≡ spec.exprs (spec.is_nested generic generics.now.vars.now) (plains es.now) first }
 {
     for e in es.as_slice() {
         first = walk_expr(generics, e, first);

@@ -10,8 +10,6 @@ mod modifiers;
 mod plain;
 mod repeats;
 mod stmts;
-#[cfg(test)]
-mod tests;
 mod types;
 mod vars;
 

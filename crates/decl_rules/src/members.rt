@@ -1,9 +1,10 @@
 //! The walk over the written types of a file (S12, S13, S17).
 
-ghost use Rattle.std.specs.Prelude.{◌≡◌, map};
+ghost use Rattle.std.specs.Prelude.{◌≡◌, Bool, map};
 ghost use Rattle.std.specs.Option.{option_map};
 ghost use Rattle.java_tree.specs.View.{stmt_plain, member_plain, decl_plain};
-ghost use Rattle.decl_rules.specs.Generic.{is_generic};
+ghost use Rattle.java_tree.specs.declared.tree.Name.{Name};
+ghost use Rattle.decl_rules.specs.Generic.{Told};
 ghost use Rattle.decl_rules.specs.Walk as spec;
 
 use crate::generics::{GenericNames, Generics};
@@ -15,8 +16,12 @@ use java_tree::tree::{Member, Stmt, TypeDecl};
 use rule_order::Breach;
 
 // The body of a method, if it has one.
-fn walk_body(generics: &Generics<'_>, x: &Option<Stmt>, first: Option<Breach>) -> Option<Breach>
-    ensures { result ≡ spec.body (spec.test_of generics.now) (option_map stmt_plain x.now) first }
+fn walk_body<G: GenericNames>(
+    generics: &Generics<'_, G>,
+    x: &Option<Stmt>,
+    first: Option<Breach>,
+) -> Option<Breach>
+    ensures { (generic : Name → Bool) → Told (G.answers generics.now.names.now) generic → result ≡ spec.body (spec.is_nested generic generics.now.vars.now) (option_map stmt_plain x.now) first }
 {
     match x {
         None => first,
@@ -24,8 +29,12 @@ fn walk_body(generics: &Generics<'_>, x: &Option<Stmt>, first: Option<Breach>) -
     }
 }
 
-fn walk_member(generics: &Generics<'_>, m: &Member, first: Option<Breach>) -> Option<Breach>
-    ensures { result ≡ spec.member (spec.test_of generics.now) (member_plain m.now) first }
+fn walk_member<G: GenericNames>(
+    generics: &Generics<'_, G>,
+    m: &Member,
+    first: Option<Breach>,
+) -> Option<Breach>
+    ensures { (generic : Name → Bool) → Told (G.answers generics.now.names.now) generic → result ≡ spec.member (spec.is_nested generic generics.now.vars.now) (member_plain m.now) first }
 {
     match m {
         Member::Field { ty, vars, .. } => walk_declared(generics, ty, vars, first),
@@ -44,12 +53,12 @@ fn walk_member(generics: &Generics<'_>, m: &Member, first: Option<Breach>) -> Op
     }
 }
 
-fn walk_members(
-    generics: &Generics<'_>,
+fn walk_members<G: GenericNames>(
+    generics: &Generics<'_, G>,
     members: &Items<Member>,
     mut first: Option<Breach>,
 ) -> Option<Breach>
-    ensures { result ≡ spec.members (spec.test_of generics.now) (map member_plain members.now) first }
+    ensures { (generic : Name → Bool) → Told (G.answers generics.now.names.now) generic → result ≡ spec.members (spec.is_nested generic generics.now.vars.now) (map member_plain members.now) first }
 {
     for m in members.as_slice() {
         first = walk_member(generics, m, first);
@@ -57,8 +66,8 @@ fn walk_members(
     first
 }
 
-fn walk_decl(names: &GenericNames, d: &TypeDecl, first: Option<Breach>) -> Option<Breach>
-    ensures { result ≡ spec.decl (is_generic names.now) (decl_plain d.now) first }
+fn walk_decl<G: GenericNames>(names: &G, d: &TypeDecl, first: Option<Breach>) -> Option<Breach>
+    ensures { (generic : Name → Bool) → Told (G.answers names.now) generic → result ≡ spec.decl generic (decl_plain d.now) first }
 {
     let vars = d.params.as_slice();
     let generics = &Generics { names, vars };
@@ -68,12 +77,12 @@ fn walk_decl(names: &GenericNames, d: &TypeDecl, first: Option<Breach>) -> Optio
 }
 
 /// The types that a file declares, each with all that is in it.
-pub(crate) fn walk_decls(
-    names: &GenericNames,
+pub(crate) fn walk_decls<G: GenericNames>(
+    names: &G,
     types: &Items<TypeDecl>,
     mut first: Option<Breach>,
 ) -> Option<Breach>
-    ensures { result ≡ spec.decls (is_generic names.now) (map decl_plain types.now) first }
+    ensures { (generic : Name → Bool) → Told (G.answers names.now) generic → result ≡ spec.decls generic (map decl_plain types.now) first }
 {
     for d in types.as_slice() {
         first = walk_decl(names, d, first);

@@ -1,11 +1,12 @@
 //! The S rules on what a file writes, by what it writes and by which names mean generic types in it.
 
-ghost use Rattle.std.specs.Prelude.{◌≡◌, map, slice_get, option_copied, not, ◌&&◌, if◌then◌else◌};
+ghost use Rattle.std.specs.Prelude.{◌≡◌, Bool, map, slice_get, option_copied, not, ◌&&◌, if◌then◌else◌};
 ghost use Rattle.std.specs.Option.{option_map};
+ghost use Rattle.java_tree.specs.declared.tree.Name.{Name};
 ghost use Rattle.java_tree.specs.declared.tree.Mod.TheVariants as mod_;
 ghost use Rattle.java_tree.specs.View.{plain, var_plain, param_plain, member_plain, decl_plain, unit_plain};
 ghost use Rattle.rule_order.specs.First.{IsFirst};
-ghost use Rattle.decl_rules.specs.Generic.{is_generic};
+ghost use Rattle.decl_rules.specs.Generic.{Told};
 ghost use Rattle.decl_rules.specs.PlainRules as rule;
 ghost use Rattle.decl_rules.specs.Looks as spec;
 
@@ -18,13 +19,13 @@ use rule_order::{Breach, noted};
 
 /// The first of S10, S12, S13, S16, S17, S18 and S19 that a file breaks: at the first node, and there the rule with the lowest number. `user` says whether it is a
 /// user's file (S10) or one of a library (S18), and `generics` has the names that mean generic types in it (S12). Node numbers are those of the tree.
-pub fn first_plain(
+pub fn first_plain<G: GenericNames>(
     unit: &SourceUnit,
     user: bool,
     names: &Names,
-    generics: &GenericNames,
+    generics: &G,
 ) -> Option<Breach>
-    ensures { IsFirst (rule.BreaksPlain (unit_plain unit.now) user names.now (is_generic generics.now)) result }
+    ensures { (generic : Name → Bool) → Told (G.answers generics.now) generic → IsFirst (rule.BreaksPlain (unit_plain unit.now) user names.now generic) result }
 {
     let first = walk_decls(generics, &unit.types, None);
     look_at_types(&unit.types, user, names, first)

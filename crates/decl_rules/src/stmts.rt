@@ -1,12 +1,14 @@
 //! The walk over the written types in statements (S12, S13, S17).
 
-ghost use Rattle.std.specs.Prelude.{◌≡◌, map};
+ghost use Rattle.std.specs.Prelude.{◌≡◌, Bool, map};
 ghost use Rattle.std.specs.Option.{option_map};
 ghost use Rattle.java_tree.specs.View.{stmt_plain, stmt_maybe, stmts_plain, group_plain, group_row, catch_plain, catch_row};
+ghost use Rattle.java_tree.specs.declared.tree.Name.{Name};
+ghost use Rattle.decl_rules.specs.Generic.{Told};
 ghost use Rattle.decl_rules.specs.Walk as spec;
 
 use crate::exprs::{walk_expr, walk_exprs};
-use crate::generics::Generics;
+use crate::generics::{GenericNames, Generics};
 use crate::types::walk_type;
 use crate::vars::{walk_declared, walk_init, walk_labels, walk_param};
 use java_tree::tree::{Catch, Group, Stmt, StmtForm};
@@ -16,8 +18,12 @@ use rule_order::Breach;
 /// A statement and all that is in it.
 #[cycle(stmts)]
 #[tactic(auto, using(tree_numbers::proofs::Forms::plain_if, tree_numbers::proofs::Forms::plain_try))]
-pub(crate) fn walk_stmt(generics: &Generics<'_>, x: &Stmt, first: Option<Breach>) -> Option<Breach>
-    ensures { result ≡ spec.stmt (spec.test_of generics.now) (stmt_plain x.now) first }
+pub(crate) fn walk_stmt<G: GenericNames>(
+    generics: &Generics<'_, G>,
+    x: &Stmt,
+    first: Option<Breach>,
+) -> Option<Breach>
+    ensures { (generic : Name → Bool) → Told (G.answers generics.now.names.now) generic → result ≡ spec.stmt (spec.is_nested generic generics.now.vars.now) (stmt_plain x.now) first }
 {
     match &x.form {
         StmtForm::Empty | StmtForm::Break | StmtForm::Continue => first,
@@ -74,12 +80,12 @@ pub(crate) fn walk_stmt(generics: &Generics<'_>, x: &Stmt, first: Option<Breach>
 }
 
 #[cycle(stmts)]
-fn walk_maybe_stmt(
-    generics: &Generics<'_>,
+fn walk_maybe_stmt<G: GenericNames>(
+    generics: &Generics<'_, G>,
     x: &Option<Boxed<Stmt>>,
     first: Option<Breach>,
 ) -> Option<Breach>
-    ensures { result ≡ spec.maybe_stmt (spec.test_of generics.now) (stmt_maybe (option_map stmt_plain x.now)) first }
+    ensures { (generic : Name → Bool) → Told (G.answers generics.now.names.now) generic → result ≡ spec.maybe_stmt (spec.is_nested generic generics.now.vars.now) (stmt_maybe (option_map stmt_plain x.now)) first }
 {
     match x {
         None => first,
@@ -88,12 +94,12 @@ fn walk_maybe_stmt(
 }
 
 #[cycle(stmts)]
-fn walk_stmts(
-    generics: &Generics<'_>,
+fn walk_stmts<G: GenericNames>(
+    generics: &Generics<'_, G>,
     xs: &Items<Stmt>,
     mut first: Option<Breach>,
 ) -> Option<Breach>
-    ensures { result ≡ spec.stmts (spec.test_of generics.now) (stmts_plain xs.now) first }
+    ensures { (generic : Name → Bool) → Told (G.answers generics.now.names.now) generic → result ≡ spec.stmts (spec.is_nested generic generics.now.vars.now) (stmts_plain xs.now) first }
 {
     for x in xs.as_slice() {
         first = walk_stmt(generics, x, first);
@@ -102,20 +108,24 @@ fn walk_stmts(
 }
 
 #[cycle(stmts)]
-fn walk_group(generics: &Generics<'_>, x: &Group, first: Option<Breach>) -> Option<Breach>
-    ensures { result ≡ spec.group (spec.test_of generics.now) (group_plain x.now) first }
+fn walk_group<G: GenericNames>(
+    generics: &Generics<'_, G>,
+    x: &Group,
+    first: Option<Breach>,
+) -> Option<Breach>
+    ensures { (generic : Name → Bool) → Told (G.answers generics.now.names.now) generic → result ≡ spec.group (spec.is_nested generic generics.now.vars.now) (group_plain x.now) first }
 {
     let first = walk_labels(generics, &x.labels, first);
     walk_stmts(generics, &x.body, first)
 }
 
 #[cycle(stmts)]
-fn walk_groups(
-    generics: &Generics<'_>,
+fn walk_groups<G: GenericNames>(
+    generics: &Generics<'_, G>,
     xs: &Items<Group>,
     mut first: Option<Breach>,
 ) -> Option<Breach>
-    ensures { result ≡ spec.groups (spec.test_of generics.now) (group_row (map group_plain xs.now)) first }
+    ensures { (generic : Name → Bool) → Told (G.answers generics.now.names.now) generic → result ≡ spec.groups (spec.is_nested generic generics.now.vars.now) (group_row (map group_plain xs.now)) first }
 {
     for x in xs.as_slice() {
         first = walk_group(generics, x, first);
@@ -124,20 +134,24 @@ fn walk_groups(
 }
 
 #[cycle(stmts)]
-fn walk_catch(generics: &Generics<'_>, x: &Catch, first: Option<Breach>) -> Option<Breach>
-    ensures { result ≡ spec.catch (spec.test_of generics.now) (catch_plain x.now) first }
+fn walk_catch<G: GenericNames>(
+    generics: &Generics<'_, G>,
+    x: &Catch,
+    first: Option<Breach>,
+) -> Option<Breach>
+    ensures { (generic : Name → Bool) → Told (G.answers generics.now.names.now) generic → result ≡ spec.catch (spec.is_nested generic generics.now.vars.now) (catch_plain x.now) first }
 {
     let first = walk_param(generics, &x.param, first);
     walk_stmt(generics, x.body.get(), first)
 }
 
 #[cycle(stmts)]
-fn walk_catches(
-    generics: &Generics<'_>,
+fn walk_catches<G: GenericNames>(
+    generics: &Generics<'_, G>,
     xs: &Items<Catch>,
     mut first: Option<Breach>,
 ) -> Option<Breach>
-    ensures { result ≡ spec.catches (spec.test_of generics.now) (catch_row (map catch_plain xs.now)) first }
+    ensures { (generic : Name → Bool) → Told (G.answers generics.now.names.now) generic → result ≡ spec.catches (spec.is_nested generic generics.now.vars.now) (catch_row (map catch_plain xs.now)) first }
 {
     for x in xs.as_slice() {
         first = walk_catch(generics, x, first);

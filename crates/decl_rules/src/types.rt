@@ -1,12 +1,14 @@
 //! The walk over written types, and over what declares variables with them (S12, S13, S17).
 
-ghost use Rattle.std.specs.Prelude.{◌≡◌, map};
+ghost use Rattle.std.specs.Prelude.{◌≡◌, Bool, map};
 ghost use Rattle.std.specs.Option.{option_map};
 ghost use Rattle.java_tree.specs.View as view;
 ghost use Rattle.java_tree.specs.View.{type_plain, var_plain};
+ghost use Rattle.java_tree.specs.declared.tree.Name.{Name};
+ghost use Rattle.decl_rules.specs.Generic.{Told};
 ghost use Rattle.decl_rules.specs.Walk as spec;
 
-use crate::generics::Generics;
+use crate::generics::{GenericNames, Generics};
 use java_tree::Items;
 use java_tree::tree::{Head, TypeExpr, Var};
 use rule_order::{Breach, noted};
@@ -36,12 +38,12 @@ pub(crate) fn walk_element(is: bool, x: &TypeExpr, first: Option<Breach>) -> Opt
 }
 
 // The first broken rule so far, where some of these arguments may be arrays or generic types.
-fn note_nested(
-    generics: &Generics<'_>,
+fn note_nested<G: GenericNames>(
+    generics: &Generics<'_, G>,
     args: &Items<TypeExpr>,
     mut first: Option<Breach>,
 ) -> Option<Breach>
-    ensures { result ≡ spec.nested (spec.test_of generics.now) (view.types (map type_plain args.now)) first }
+    ensures { (generic : Name → Bool) → Told (G.answers generics.now.names.now) generic → result ≡ spec.nested (spec.is_nested generic generics.now.vars.now) (view.types (map type_plain args.now)) first }
 {
     for x in args.as_slice() {
         first = noted(first, 12, x.node, is_nested(generics, x));
@@ -49,20 +51,20 @@ fn note_nested(
     first
 }
 
-fn is_nested(generics: &Generics<'_>, x: &TypeExpr) -> bool
-    ensures { result ≡ spec.test_of generics.now (type_plain x.now) }
+fn is_nested<G: GenericNames>(generics: &Generics<'_, G>, x: &TypeExpr) -> bool
+    ensures { (generic : Name → Bool) → Told (G.answers generics.now.names.now) generic → result ≡ spec.is_nested generic generics.now.vars.now (type_plain x.now) }
 {
     x.dims > 0 || generics.names_generic(&x.head)
 }
 
 /// A type and its arguments.
 #[cycle(types)]
-pub(crate) fn walk_type(
-    generics: &Generics<'_>,
+pub(crate) fn walk_type<G: GenericNames>(
+    generics: &Generics<'_, G>,
     x: &TypeExpr,
     first: Option<Breach>,
 ) -> Option<Breach>
-    ensures { result ≡ spec.type (spec.test_of generics.now) (type_plain x.now) first }
+    ensures { (generic : Name → Bool) → Told (G.answers generics.now.names.now) generic → result ≡ spec.type (spec.is_nested generic generics.now.vars.now) (type_plain x.now) first }
 {
     let first = noted(first, 13, x.node, is_qualified(&x.head));
     let first = walk_element(x.dims > 0, x, first);
@@ -72,12 +74,12 @@ pub(crate) fn walk_type(
 
 /// Each of a list.
 #[cycle(types)]
-pub(crate) fn walk_types(
-    generics: &Generics<'_>,
+pub(crate) fn walk_types<G: GenericNames>(
+    generics: &Generics<'_, G>,
     xs: &Items<TypeExpr>,
     mut first: Option<Breach>,
 ) -> Option<Breach>
-    ensures { result ≡ spec.types (spec.test_of generics.now) (view.types (map type_plain xs.now)) first }
+    ensures { (generic : Name → Bool) → Told (G.answers generics.now.names.now) generic → result ≡ spec.types (spec.is_nested generic generics.now.vars.now) (view.types (map type_plain xs.now)) first }
 {
     for x in xs.as_slice() {
         first = walk_type(generics, x, first);
@@ -86,12 +88,12 @@ pub(crate) fn walk_types(
 }
 
 /// A type, if there is one.
-pub(crate) fn walk_maybe_type(
-    generics: &Generics<'_>,
+pub(crate) fn walk_maybe_type<G: GenericNames>(
+    generics: &Generics<'_, G>,
     x: &Option<TypeExpr>,
     first: Option<Breach>,
 ) -> Option<Breach>
-    ensures { result ≡ spec.maybe_type (spec.test_of generics.now) (option_map type_plain x.now) first }
+    ensures { (generic : Name → Bool) → Told (G.answers generics.now.names.now) generic → result ≡ spec.maybe_type (spec.is_nested generic generics.now.vars.now) (option_map type_plain x.now) first }
 {
     match x {
         None => first,

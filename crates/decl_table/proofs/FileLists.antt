@@ -1,24 +1,14 @@
 -- The files of a program among lists of units.
-use Rattle.std.proofs.Common.{◌≡◌, ℕ, ◌+◌, ◌<◌, Bool, List, map, length, Option, Some, refl, ap, ◌∙◌, subst, arith, get_or}
-use mathlib.Core.Path.{fun_ext}
+use Rattle.std.proofs.Common.{◌≡◌, ℕ, ◌+◌, ◌<◌, Bool, List, map, length, Some, refl, ap, ◌∙◌, subst, arith, get_or}
 use Rattle.std.specs.Prelude.{slice_get, true, false}
 use Rattle.std.specs.Option.{option_map}
 use Rattle.std.proofs.lemmas.List.{length-map}
 use Rattle.std.proofs.lemmas.Option.{slice_get-map, slice_get_read}
-use Rattle.java_tree.specs.declared.tree.Name.{Name}
 use Rattle.java_tree.specs.declared.tree.SourceUnit as declared
 use Rattle.java_tree.specs.Plain.{SourceUnit}
 use Rattle.java_tree.specs.View.{unit_plain}
-use Rattle.class_world.specs.declared.world.TypeInfo.{TypeInfo}
-use Rattle.rule_order.specs.declared.Breach.{Breach}
-use Rattle.rule_order.specs.First.{IsFirst}
-use Rattle.type_names.specs.declared.known.JavaNames.{JavaNames}
 use Rattle.type_names.specs.Known.{File, files_of}
 use Rattle.type_names.specs.Tables.{files_in}
-use Rattle.decl_rules.specs.PlainRules.{BreaksPlain}
-use Rattle.decl_rules.specs.Generic.{is_generic}
-use Rattle.decl_rules.specs.declared.generics.GenericNames.{GenericNames}
-use Rattle.decl_table.specs.Program.{is_generic_name, PlainBreaches}
 use Rattle.decl_table.specs.Files.{StandAt}
 use Rattle.decl_table.proofs.Listed.{get_front, get_behind}
 
@@ -30,11 +20,6 @@ pub file_at : (user : Bool) (us : List declared.SourceUnit) (i : ℕ) (u : decla
     → slice_get (files_in user (map unit_plain us)) i ≡ Some (record { unit = unit_plain u; user = user })
 file_at user us i u lt is =
     slice_get-map (file_of user) (map unit_plain us) i ∙ ap (option_map (file_of user)) (slice_get-map unit_plain us i ∙ ap (option_map unit_plain) (slice_get_read us (length us) i u refl lt is))
-
--- the set of names that stands for the meanings of names
-pub same_names : (f : File) (names : List (List ℕ)) (j : JavaNames) (fs : List File) (ts : List TypeInfo) (set : GenericNames) (r : Option Breach)
-    → ((n : Name) → is_generic set n ≡ is_generic_name j fs ts f n) → IsFirst (BreaksPlain f.unit f.user names (is_generic set)) r → IsFirst (PlainBreaches names j fs ts f) r
-same_names f names j fs ts set r same first = subst (λ generic. IsFirst (BreaksPlain f.unit f.user names generic) r) (fun_ext same) first
 
 pub user_at : (user lib : List SourceUnit) → StandAt (files_of user lib) 0 (files_in true user)
 user_at user lib k f e =

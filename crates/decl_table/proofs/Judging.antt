@@ -18,7 +18,6 @@ use Rattle.class_world.specs.declared.world.TypeInfo.{TypeInfo}
 use Rattle.class_world.specs.declared.world.MethodInfo.{MethodInfo}
 use Rattle.class_world.specs.declared.world.FieldInfo.{FieldInfo}
 use Rattle.class_world.specs.Merged.{IsAboveItself}
-use Rattle.class_world.specs.Ordered.{SameBut}
 use Rattle.class_world.specs.Sound.{AreSupers}
 use Rattle.built_in_types.specs.declared.words.Words.{Words}
 use Rattle.built_in_types.specs.declared.types.BuiltIns.{BuiltIns}
@@ -28,7 +27,7 @@ use Rattle.written_types.specs.Places.{Place}
 use Rattle.decl_table.specs.declared.program.Judged.{Judged}
 use Rattle.decl_table.specs.declared.program.Judged.TheVariants as judged
 use Rattle.decl_table.specs.Bases.{AreBases}
-use Rattle.decl_table.specs.Program.{Program, java, files, built, ScopeSet, ScopeBreaches, sum, total, type_count, method_count, DeclarationSet, IsNone, IsFirstOf, IsLimitOver, IsEarlyRefusal, IsRefusal}
+use Rattle.decl_table.specs.Program.{Program, java, files, built, ScopeSet, ScopeBreaches, sum, total, type_count, method_count, DeclarationSet, IsNone, IsFirstOf, IsLimitOver, IsEarlyRefusal, IsRefusal, SameDeclared}
 use Rattle.decl_table.specs.Judged.{IsJudged, IsDeclared, IsEarly, IsTabled, named}
 use Rattle.decl_table.proofs.Fitting.{made}
 use Rattle.decl_table.proofs.Orders.{supers_in_order}
@@ -85,11 +84,11 @@ in_order b j fs bases none = supers_in_order b j fs bases (λ x h. none x (inl (
 pub not_above : (b : BuiltIns) (j : JavaNames) (fs : List File) → AreBases b.types → IsNone (DeclarationSet b j fs) → (c : ℕ) → IsAboveItself (world_of b j fs) c → ⊥
 not_above b j fs bases none c itself = none_rises b j fs bases (λ x h. none x (inl (inr (inr (inr (inl h)))))) c itself
 
-pub tabled_declared : (b : BuiltIns) (j : JavaNames) (fs : List File) (w : World) (r : Result Judged NoMemory) → w ≡ world_of b j fs → IsNone (DeclarationSet b j fs) → IfOk r (IsTabled w)
-    → IfOk r (IsDeclared b j fs)
-tabled_declared b j fs w (Err e) is none h = tt
-tabled_declared b j fs w (Ok (judged.Declared v)) is none h = (none, h.0, subst (λ u. SameBut u v) is h.1)
-tabled_declared b j fs w (Ok (judged.Refused x)) is none h = absurd h
+pub tabled_declared : (names : List (List ℕ)) (b : BuiltIns) (j : JavaNames) (fs : List File) (w : World) (r : Result Judged NoMemory) → w ≡ world_of b j fs → IsNone (DeclarationSet b j fs) → IfOk r (IsTabled names w)
+    → IfOk r (IsDeclared names b j fs)
+tabled_declared names b j fs w (Err e) is none h = tt
+tabled_declared names b j fs w (Ok (judged.Declared v)) is none h = (none, h.0, h.1, subst (λ u. SameDeclared u v) is h.2)
+tabled_declared names b j fs w (Ok (judged.Refused x)) is none h = absurd h
 
 -- ---- the rules before them
 
@@ -115,7 +114,7 @@ refused_early names p j bs ts b same base is h =
 
 pub declared_judged : (names : List (List ℕ)) (p : Program) (j : JavaNames) (b : BuiltIns) (ts : List TypeInfo) (r : Result Judged NoMemory) → j ≡ java p → b.types ≡ (built p.words).types
     → b.methods ≡ (built p.words).methods → b.fields ≡ (built p.words).fields → ts ≡ headers b.types (files p)
-    → IsEarly (ScopeSet names j p.user p.lib ts) (type_count p) (method_count p) None → IfOk r (IsDeclared b j (files p)) → IfOk r (IsJudged names p)
+    → IsEarly (ScopeSet names j p.user p.lib ts) (type_count p) (method_count p) None → IfOk r (IsDeclared names b j (files p)) → IfOk r (IsJudged names p)
 declared_judged names p j b ts r same types methods fields is early h = all r h
   where
     whole : b ≡ built p.words
@@ -128,7 +127,7 @@ declared_judged names p j b ts r same types methods fields is early h = all r h
     moved : (P : BuiltIns → JavaNames → Type 0) → P b j → P (built p.words) (java p)
     moved P x = subst (λ c. P c (java p)) whole (subst (P b) same x)
 
-    all : (r : Result Judged NoMemory) → IfOk r (IsDeclared b j (files p)) → IfOk r (IsJudged names p)
+    all : (r : Result Judged NoMemory) → IfOk r (IsDeclared names b j (files p)) → IfOk r (IsJudged names p)
     all (Err e) h = tt
     all (Ok (judged.Declared w)) h = record {
       scope = scope;
@@ -136,8 +135,9 @@ declared_judged names p j b ts r same types methods fields is early h = all r h
       methods = early.2;
       declared = moved (λ c i. IsNone (DeclarationSet c i (files p))) h.0;
       sound = h.1;
-      typed = typed_world p.words (java p) (files p) w (moved (λ c i. SameBut (world_of c i (files p)) w) h.2);
-      same = moved (λ c i. SameBut (world_of c i (files p)) w) h.2;
+      typed = typed_world p.words (java p) (files p) w (moved (λ c i. SameDeclared (world_of c i (files p)) w) h.3);
+      walk = h.2;
+      same = moved (λ c i. SameDeclared (world_of c i (files p)) w) h.3;
     }
     all (Ok (judged.Refused x)) h = inr (scope, early.1, early.2, moved (λ c i. IsFirstOf family.DR (DeclarationSet c i (files p)) x) h)
 

@@ -13,11 +13,10 @@ pub mod Listed
 pub mod Supers
 pub mod Orders
 pub mod Facts
-pub mod GenericSeen
 pub mod FileLists
-pub mod Meanings
 pub mod Lows
 pub mod Clashing
 pub mod Rises
 pub mod Typed
 pub mod Judging
+pub mod Once

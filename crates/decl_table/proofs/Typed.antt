@@ -15,7 +15,6 @@ use Rattle.class_world.specs.declared.world.JavaType.TheVariants as ty
 use Rattle.class_world.specs.Types.{IsTypeOver, a_primitive, the_null, a_class, an_array}
 use Rattle.class_world.specs.Sound.{IsKnown}
 use Rattle.class_world.specs.Typed.{HaveTypes}
-use Rattle.class_world.specs.Ordered.{SameBut}
 use Rattle.class_world.proofs.Forms.{null_kind, primitive_kind}
 use Rattle.type_names.specs.declared.known.JavaNames.{JavaNames}
 use Rattle.type_names.specs.Known.{File}
@@ -28,7 +27,7 @@ use Rattle.built_in_types.specs.BuiltIns as base
 use Rattle.program_world.specs.ProgramWorld.{Argument, argument, leveled, member_type, param_type, method_info, own_methods, lacks_constructor, default_constructor, methods_of, field_info, own_fields, fields_of, methods_from, fields_from, place_among, world_of}
 use Rattle.program_world.proofs.Supers.{argument_null}
 use Rattle.decl_table.specs.Bases.{AreBases}
-use Rattle.decl_table.specs.Program.{built}
+use Rattle.decl_table.specs.Program.{built, SameDeclared}
 use Rattle.decl_table.proofs.Bases.{built_in_bases}
 use Rattle.decl_table.proofs.BuiltInLists.{all_at}
 use Rattle.decl_table.proofs.Facts.{one_there}
@@ -221,7 +220,7 @@ built_in_field words w known (suc m) info e = absurd (none_there m info e)
 
 -- ---- all members
 
-module _ (b : BuiltIns) (j : JavaNames) (fs : List File) (w : World) (bases : AreBases b.types) (same : SameBut (world_of b j fs) w) where
+module _ (b : BuiltIns) (j : JavaNames) (fs : List File) (w : World) (bases : AreBases b.types) (same : SameDeclared (world_of b j fs) w) where
   known_base : (c : ℕ) → c < 16 → IsKnown w c
   known_base c low =
       let at = get_there b.types c (omega (arith, low, bases.count)) in
@@ -263,7 +262,7 @@ module _ (b : BuiltIns) (j : JavaNames) (fs : List File) (w : World) (bases : Ar
             inr (own.0, ap (slice_get w.types) said.1 ∙ own.1, subst (λ n. IsTypeOver w n info.ty) (sym own.2) said.0))
       ]
 
-pub typed_world : (words : Words) (j : JavaNames) (fs : List File) (w : World) → SameBut (world_of (built words) j fs) w → HaveTypes w
+pub typed_world : (words : Words) (j : JavaNames) (fs : List File) (w : World) → SameDeclared (world_of (built words) j fs) w → HaveTypes w
 typed_world words j fs w same = record {
   params = λ m k info own t at there e. (method m info own at there).params k t e;
   results = λ m info own t at there e. (method m info own at there).result t e;

@@ -8,36 +8,36 @@ use Rattle.java_tree.specs.declared.fault.Fault.TheVariants as fault
 use Rattle.java_tree.specs.Plain.{SourceUnit}
 use Rattle.rule_order.specs.declared.Breach.{Breach}
 use Rattle.class_world.specs.declared.world.World.{World}
-use Rattle.class_world.specs.Ordered.{SameBut}
 use Rattle.class_world.specs.Sound.{IsSound}
 use Rattle.built_in_types.specs.BuiltIns.{AreWords}
 use Rattle.decl_table.specs.declared.program.Judged.{Judged}
 use Rattle.decl_table.specs.declared.program.Judged.TheVariants as judged
-use Rattle.decl_table.specs.Program.{Program, DeclarationSet, IsNone, IsFirstOf, IsEarlyRefusal, IsRefusal, IsProgramWorld}
+use Rattle.decl_table.specs.Program.{Program, DeclarationSet, IsNone, IsFirstOf, IsEarlyRefusal, IsRefusal, IsProgramWorld, SameDeclared}
 use Rattle.built_in_types.specs.declared.types.BuiltIns.{BuiltIns}
 use Rattle.type_names.specs.declared.known.JavaNames.{JavaNames}
 use Rattle.type_names.specs.Known.{File}
 use Rattle.program_world.specs.ProgramWorld.{world_of}
 use Rattle.rule_order.specs.First.{Breaches}
+use Rattle.iterables.specs.Walks.{WalkIs}
 
 abbrev pub IsJudged : List (List ℕ) → Program → Judged → Type 0
 IsJudged names p (judged.Declared w) = IsProgramWorld names p w
 IsJudged names p (judged.Refused b) = IsRefusal names p b
 
 -- where no rule before the DR rules is broken, and the built-in types are these
-abbrev pub IsDeclared : BuiltIns → JavaNames → List File → Judged → Type 0
-IsDeclared b j fs (judged.Declared w) = IsNone (DeclarationSet b j fs) × IsSound w × SameBut (world_of b j fs) w
-IsDeclared b j fs (judged.Refused x) = IsFirstOf family.DR (DeclarationSet b j fs) x
+abbrev pub IsDeclared : List (List ℕ) → BuiltIns → JavaNames → List File → Judged → Type 0
+IsDeclared names b j fs (judged.Declared w) = IsNone (DeclarationSet b j fs) × IsSound w × WalkIs names w.walk w × SameDeclared (world_of b j fs) w
+IsDeclared names b j fs (judged.Refused x) = IsFirstOf family.DR (DeclarationSet b j fs) x
 
 -- the first of these rules, or a limit; or none is broken
 abbrev pub IsEarly : Breaches → (types methods : ℕ) → Option Broken → Type 0
 IsEarly S types methods (Some b) = IsEarlyRefusal S types methods b
 IsEarly S types methods None = IsNone S × (types ≤ 4096) × (methods ≤ 65536)
 
--- the same world with its table
-abbrev pub IsTabled : World → Judged → Type 0
-IsTabled w (judged.Declared v) = IsSound v × SameBut w v
-IsTabled w (judged.Refused b) = ⊥
+-- the same world with its table and its walk
+abbrev pub IsTabled : List (List ℕ) → World → Judged → Type 0
+IsTabled names w (judged.Declared v) = IsSound v × WalkIs names v.walk v × SameDeclared w v
+IsTabled names w (judged.Refused b) = ⊥
 
 -- a broken rule of a family, with its node
 abbrev pub named : Family → Breach → Broken

@@ -8,4 +8,3 @@ pub mod Files
 pub mod Bases
 pub mod Clashes
 pub mod Judged
-pub mod ByName

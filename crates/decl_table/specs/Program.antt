@@ -17,7 +17,7 @@ use Rattle.decl_rules.specs.DeclaredRules.{BreaksDeclared, declared_types, decla
 use Rattle.class_world.specs.declared.world.World.{World}
 use Rattle.class_world.specs.declared.world.TypeInfo.{TypeInfo}
 use Rattle.class_world.specs.declared.world.MethodInfo.{MethodInfo}
-use Rattle.class_world.specs.Ordered.{SameBut, IsFirstBelowTwo}
+use Rattle.class_world.specs.Ordered.{IsFirstBelowTwo}
 use Rattle.class_world.specs.Sound.{IsSound}
 use Rattle.class_world.specs.Typed.{HaveTypes}
 use Rattle.built_in_types.specs.declared.words.Words.{Words}
@@ -29,6 +29,7 @@ use Rattle.declared_types.specs.Rules.{DeclaredTypeBreaches}
 use Rattle.super_rules.specs.Rules.{GenericSuperBreaches, SuperBreaches}
 use Rattle.method_rules.specs.Repeats.{RepeatsMethod}
 use Rattle.program_world.specs.ProgramWorld.{world_of}
+use Rattle.iterables.specs.Walks.{WalkIs}
 
 -- The files of a program, and the numbers of the names that the built-in types need.
 pub record Program : Type 0 where
@@ -149,7 +150,11 @@ IsRefusal names p b =
     IsEarlyRefusal (ScopeBreaches names p) (type_count p) (method_count p) b
     ⊎ (IsNone (ScopeBreaches names p) × (type_count p ≤ 4096) × (method_count p ≤ 65536) × IsFirstOf family.DR (DeclarationBreaches p) b)
 
--- No rule is broken, and the world is the program's, with the table of its order. Its members are made of its types.
+-- two worlds have the same types, methods and fields
+abbrev pub SameDeclared : World → World → Type 0
+SameDeclared w v = (v.types ≡ w.types) × (v.methods ≡ w.methods) × (v.fields ≡ w.fields)
+
+-- No rule is broken, and the world is the program's, with the table of its order and with its walk. Its members are made of its types.
 pub record IsProgramWorld (names : List (List ℕ)) (p : Program) (w : World) : Type 0 where
   pub scope : IsNone (ScopeBreaches names p)
   pub types : type_count p ≤ 4096
@@ -157,4 +162,5 @@ pub record IsProgramWorld (names : List (List ℕ)) (p : Program) (w : World) : 
   pub declared : IsNone (DeclarationBreaches p)
   pub sound : IsSound w
   pub typed : HaveTypes w
-  pub same : SameBut (world p) w
+  pub walk : WalkIs names w.walk w
+  pub same : SameDeclared (world p) w

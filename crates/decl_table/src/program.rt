@@ -1,10 +1,10 @@
 //! The world of a program, or the first broken rule on its declarations.
 
-ghost use Rattle.std.specs.Prelude.{◌≡◌, ℕ, ◌+◌, ◌<◌, ◌≤◌, ◌^◌, List, map, length, IfOk};
+ghost use Rattle.std.specs.Prelude.{◌≡◌, ◌≢◌, ℕ, ◌+◌, ◌<◌, ◌≤◌, ◌^◌, List, map, length, Err, IfOk};
 ghost use Rattle.java_tree.specs.Names.{IsFront};
 ghost use Rattle.java_tree.specs.View.{unit_plain};
 ghost use Rattle.rule_order.specs.First.{IsFirst};
-ghost use Rattle.built_in_types.specs.BuiltIns.{AreWords};
+ghost use Rattle.built_in_types.specs.BuiltIns.{AreWords, with_words};
 ghost use Rattle.type_names.specs.Known.{files_of};
 ghost use Rattle.type_names.specs.Tables.{StandsFor};
 ghost use Rattle.type_headers.specs.Declared.{headers};
@@ -22,6 +22,7 @@ use crate::limits::broken_limit;
 use crate::scope::first_scope_breach;
 use built_in_types::{BuiltIns, Word, Words, built_ins};
 use class_world::{Ordered, TypeInfo, World, with_order};
+use iterables::with_walk;
 use java_tree::tree::SourceUnit;
 use java_tree::{Broken, Family, Fault, Names, NoMemory};
 use program_world::declared_world;
@@ -36,7 +37,7 @@ pub(crate) enum Judged {
     Refused(Broken),
 }
 
-/// The declared types, methods and fields of the program of these user files and library files (JLS 3rd edition, chapters 6 to 9), each by number: the built-in types first, and then those of the files in order; with the table of the order of the types. Or the first broken rule: of S10 to S20, S22 and S23 the one at the first node, and there the one with the lowest number; else L6 (more than 4,096 types) or L7 (more than 65,536 methods and constructors), which have no node; else the first of DR1 to DR12, likewise. Node numbers are those of the trees, which are numbered one behind the other. The table of names gets at most 14 more names, and keeps the others. Where the library's Iterable is usable is not looked for yet: `walk` is `None`.
+/// The declared types, methods and fields of the program of these user files and library files (JLS 3rd edition, chapters 6 to 9), each by number: the built-in types first, and then those of the files in order; with the table of the order of the types and with its walk. Or the first broken rule: of S10 to S20, S22 and S23 the one at the first node, and there the one with the lowest number; else L6 (more than 4,096 types) or L7 (more than 65,536 methods and constructors), which have no node; else the first of DR1 to DR12, likewise. Node numbers are those of the trees, which are numbered one behind the other. The table of names gets those of the names that the built-in types need which it has not, at most 14, and keeps the others; where memory runs out, it may get some of them. `walk` has the numbers of the library's java.lang.Iterable and of its methods, where it is usable (`iterables`), and else is `None`.
 pub fn build(
     alloc: Global,
     user: &[SourceUnit],
@@ -46,6 +47,7 @@ pub fn build(
     requires few { length names.old < 2 ^ 31 }
     ensures kept { IsFront names.old names.new }
     ensures few { length names.new ≤ length names.old + 14 }
+    ensures named { result ≢ Err Fault.NoMemory → names.new ≡ with_words names.old }
     ensures built { IsBuilding names.new (map unit_plain user.now) (map unit_plain lib.now) result }
 {
     let words = match Words::of(alloc, names) {
@@ -77,7 +79,7 @@ fn judge(
         return Ok(Judged::Refused(broken));
     }
     let built = built_ins(alloc, words)?;
-    judge_declarations(alloc, java, built, &meant, types, user, lib)
+    judge_declarations(alloc, names, java, built, &meant, types, user, lib)
 }
 
 /// The first of the S rules and of the limits.
@@ -111,6 +113,7 @@ fn first_early(
 /// The DR rules, where no rule before them is broken.
 fn judge_declarations(
     alloc: Global,
+    names: &Names,
     java: JavaNames,
     built: BuiltIns,
     meant: &TypeNames,
@@ -122,7 +125,7 @@ fn judge_declarations(
     requires stands { StandsFor meant.now java (files_of (map unit_plain user.now) (map unit_plain lib.now)) }
     requires headers { types.now ≡ headers built.types (files_of (map unit_plain user.now) (map unit_plain lib.now)) }
     requires few { length types.now < 2 ^ 32 }
-    ensures { IfOk result (IsDeclared built java (files_of (map unit_plain user.now) (map unit_plain lib.now))) }
+    ensures { IfOk result (IsDeclared names.now built java (files_of (map unit_plain user.now) (map unit_plain lib.now))) }
 {
     let world = declared_world(alloc, built, meant, types, user, lib)?;
     let methods = world.methods.as_slice();
@@ -130,20 +133,23 @@ fn judge_declarations(
     let clash = first_clash(alloc, &world)?;
     match earlier(in_rules, clash) {
         Some(breach) => Ok(Judged::Refused(broken(Family::DR, breach))),
-        None => with_table(alloc, world),
+        None => with_table(alloc, names, world),
     }
 }
 
-/// The world with the table of its order.
-fn with_table(alloc: Global, world: World) -> Result<Judged, NoMemory>
+/// The world with the table of its order and with its walk.
+fn with_table(alloc: Global, names: &Names, world: World) -> Result<Judged, NoMemory>
     requires supers { AreSupers world }
     requires few { length world.types < 2 ^ 32 }
     requires rises { (c : ℕ) → IsAboveItself world c → ⊥ }
     requires single { (c : ℕ) → IsClassBelowTwo world c → ⊥ }
-    ensures { IfOk result (IsTabled world) }
+    ensures { IfOk result (IsTabled names.now world) }
 {
     match with_order(alloc, world)? {
-        Ordered::Sound(world) => Ok(Judged::Declared(world)),
+        Ordered::Sound(world) => {
+            let walked = with_walk(alloc, names, world)?;
+            Ok(Judged::Declared(walked))
+        }
         Ordered::AboveItself(_) | Ordered::BelowTwo(_) => unreachable!(),
     }
 }

@@ -10,11 +10,10 @@ ghost use Rattle.type_names.specs.Tables.{StandsFor, files_in};
 ghost use Rattle.class_world.specs.declared.world.TypeInfo as spec_world;
 ghost use Rattle.type_headers.specs.Declared.{headers};
 ghost use Rattle.decl_table.specs.Bases.{AreBases};
-ghost use Rattle.decl_table.specs.ByName.{AreGenericNames};
-ghost use Rattle.decl_table.specs.Program.{NamesGenerics, PlainBreaches, ScopeSet};
+ghost use Rattle.decl_table.specs.Program.{PlainBreaches, ScopeSet};
 ghost use Rattle.decl_table.specs.Files.{StandAt};
 
-use crate::generics::GenericTypes;
+use crate::generics::InFile;
 use class_world::TypeInfo;
 use decl_rules::first_plain;
 use java_tree::tree::SourceUnit;
@@ -40,49 +39,45 @@ pub(crate) fn first_scope_breach(
 {
     let in_supers = first_generic_super(alloc, meant, types, user, lib)?;
     let in_names = first_name_breach(alloc, java, user, lib)?;
-    let in_files = first_plain_breach(alloc, names, meant, types, user, lib)?;
+    let in_files = first_plain_breach(names, meant, types, user, lib)?;
     let behind = earlier(in_names, in_supers);
     Ok(earlier(in_files, behind))
 }
 
 /// The first of S10, S12, S13 and S16 to S19 that the files break.
 fn first_plain_breach(
-    alloc: Global,
     names: &Names,
     meant: &TypeNames,
     types: &[TypeInfo],
     user: &[SourceUnit],
     lib: &[SourceUnit],
 ) -> Result<Option<Breach>, NoMemory>
-    ensures { (j : spec.JavaNames) → StandsFor meant.now j (files_of (map unit_plain user.now) (map unit_plain lib.now)) → NamesGenerics types.now j (files_of (map unit_plain user.now) (map unit_plain lib.now))
+    ensures { (j : spec.JavaNames) → StandsFor meant.now j (files_of (map unit_plain user.now) (map unit_plain lib.now))
         → IfOk result (λ r. IsFirst (Among (PlainBreaches names.now j (files_of (map unit_plain user.now) (map unit_plain lib.now)) types.now) (files_of (map unit_plain user.now) (map unit_plain lib.now))) r) }
 {
-    let generic = GenericTypes::of(alloc, types)?;
-    let in_user = first_of_units(alloc, names, meant, &generic, user, true, 0)?;
-    let in_lib = first_of_units(alloc, names, meant, &generic, lib, false, user.len())?;
+    let in_user = first_of_units(names, meant, types, user, true, 0)?;
+    let in_lib = first_of_units(names, meant, types, lib, false, user.len())?;
     Ok(earlier(in_user, in_lib))
 }
 
 /// The first that these files break, of which the first has the number `before`.
 fn first_of_units(
-    alloc: Global,
     names: &Names,
     meant: &TypeNames,
-    generic: &GenericTypes<'_>,
+    types: &[TypeInfo],
     units: &[SourceUnit],
     user: bool,
     before: usize,
 ) -> Result<Option<Breach>, NoMemory>
-    requires { AreGenericNames generic.now.types.now generic.now.names }
-    ensures { (j : spec.JavaNames) (fs : List File) → StandsFor meant.now j fs → NamesGenerics generic.now.types.now j fs → StandAt fs before (files_in user (map unit_plain units.now))
-        → IfOk result (λ r. IsFirst (Among (PlainBreaches names.now j fs generic.now.types.now) (files_in user (map unit_plain units.now))) r) }
+    ensures { (j : spec.JavaNames) (fs : List File) → StandsFor meant.now j fs → StandAt fs before (files_in user (map unit_plain units.now))
+        → IfOk result (λ r. IsFirst (Among (PlainBreaches names.now j fs types.now) (files_in user (map unit_plain units.now))) r) }
 {
     let mut first = None;
     for (at, unit) in units.iter().enumerate() {
         let Ok(file) = u32::try_from(before.saturating_add(at)) else {
             return Err(NoMemory);
         };
-        let generics = generic.named_in(alloc, meant, file)?;
+        let generics = InFile { meant, types, file };
         first = earlier(first, first_plain(unit, user, names, &generics));
     }
     Ok(first)

@@ -6,6 +6,3 @@ pub mod places;
 
 pub use edits::{Edit, apply};
 pub use places::{Place, offset_at, place_at};
-
-#[cfg(test)]
-mod tests;

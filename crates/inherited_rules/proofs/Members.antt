@@ -23,7 +23,7 @@ use Rattle.class_world.proofs.Orders.{class_parts, class_above, class_supers, ow
 use Rattle.class_world.proofs.Lifts.{put_below}
 use Rattle.class_world.proofs.Steps.{put_same}
 use Rattle.seen_methods.specs.Seen.{HasResult}
-use Rattle.inherited_rules.specs.Typed.{HaveTypes}
+use Rattle.class_world.specs.Typed.{HaveTypes}
 use Rattle.inherited_rules.specs.Parts.{IsResult}
 
 -- the class s is above c, with these arguments

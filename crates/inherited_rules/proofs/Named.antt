@@ -15,7 +15,7 @@ use Rattle.inherited_rules.proofs.Members.{AreNamesakes}
 abbrev pub AreClear : (ℕ → Type 0) → List ℕ → ℕ → Type 0
 AreClear P ms i = (j x : ℕ) → j < i → slice_get ms j ≡ Some x → P x → ⊥
 
-item_at : (ms : List ℕ) (i : ℕ) → i < length ms → slice_get ms i ≡ Some (slice_index_or ms i 0)
+pub item_at : (ms : List ℕ) (i : ℕ) → i < length ms → slice_get ms i ≡ Some (slice_index_or ms i 0)
 item_at [] i lt = absurd (omega (arith, lt))
 item_at (m ∷ ms) zero lt = refl
 item_at (m ∷ ms) (suc i) lt = item_at ms i (omega (arith, lt))
@@ -25,7 +25,7 @@ has_item [] i lt = absurd (omega (arith, lt))
 has_item (m ∷ ms) zero lt = (0, omega arith, refl)
 has_item (m ∷ ms) (suc i) lt = let h = has_item ms i (omega (arith, lt)) in (suc h.0, omega (arith, h.1), h.2)
 
-lower_or_last : (j i : ℕ) → j < i + 1 → (j < i) ⊎ (j ≡ i)
+pub lower_or_last : (j i : ℕ) → j < i + 1 → (j < i) ⊎ (j ≡ i)
 lower_or_last j i h = grind (arith, h)
 
 -- nor has the next one

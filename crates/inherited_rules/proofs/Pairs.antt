@@ -1,19 +1,23 @@
 -- Pairs of members, of which the search looks at each once.
-use Rattle.std.proofs.Common.{◌≡◌, ℕ, ◌<◌, ◌≤◌, Bool, true, false, not, List, Option, None, Some, ◌⊎◌, inl, inr, ◌↔◌, IsTrue, refl, sym, ap, ◌∙◌, subst, length, arith}
+use Rattle.std.proofs.Common.{◌≡◌, ℕ, ◌+◌, ◌<◌, ◌≤◌, Bool, true, false, cond, nat_eq, map, List, Option, None, Some, ◌⊎◌, inl, inr, refl, sym, ap, ◌∙◌, subst, length, arith}
+use Rattle.std.specs.Prelude.{slice_get}
 use Rattle.std.specs.List.{Contains}
+use Rattle.std.proofs.lemmas.Bool.{cases_eq, eq-eqb, ne_eqb, cond-true, cond-false}
+use Rattle.std.proofs.lemmas.Option.{slice_get_read, slice_get_within}
 use Rattle.class_world.specs.declared.world.World.{World}
-use Rattle.class_world.specs.declared.world.JavaType.{JavaType}
+use Rattle.class_world.specs.declared.world.MethodInfo.{MethodInfo}
 use Rattle.class_world.specs.Types.{erased}
 use Rattle.class_world.specs.Sound.{IsKnown, IsSound}
-use Rattle.class_world.specs.Signatures.{HaveOneSignatureIn}
-use Rattle.class_world.specs.Inheritance.{DeclaresMethod}
-use Rattle.class_world.proofs.Substs.{length_map}
-use Rattle.seen_methods.specs.Seen.{TellsResult}
+use Rattle.class_world.specs.Signatures.{HasParams, HaveOneSignatureIn, IsMethod}
+use Rattle.class_world.specs.Inheritance.{DeclaresMethod, IsMemberMethod, declared, inherited}
+use Rattle.class_world.proofs.Substs.{there_is}
+use Rattle.seen_methods.specs.Closed.{HasClosedParams}
+use Rattle.seen_methods.proofs.Belows.{one_params}
 use Rattle.member_methods.specs.Methods.{AreMembers}
-use Rattle.inherited_rules.specs.Rules.{FitsResult, HasClash, HasUnlikeResults, HaveOneErasure, LacksBody}
-use Rattle.inherited_rules.specs.Parts.{AreUnlike, ClashesLater, IsUnlikeLater, IsUnmet}
-use Rattle.inherited_rules.proofs.Members.{AreNamesakes, one_result, own_signature}
-use Rattle.inherited_rules.proofs.Named.{AreClear, all_clear}
+use Rattle.inherited_rules.specs.Rules.{HasClash, HaveOneErasure, IsInherited}
+use Rattle.inherited_rules.specs.Numbers.{AreErased, AreLike, AreSingle}
+use Rattle.inherited_rules.proofs.Members.{member_seen, signature_params}
+use Rattle.inherited_rules.proofs.Named.{lower_or_last}
 
 one_first : (m k : ℕ) → (m < k) ⊎ (m ≡ k) ⊎ (k < m)
 one_first m k = grind arith
@@ -21,95 +25,186 @@ one_first m k = grind arith
 pub signature_swap : (w : World) (c m k : ℕ) → HaveOneSignatureIn w c m k → HaveOneSignatureIn w c k m
 signature_swap w c m k h = ((h.0.1, h.0.0, h.0.3, h.0.2, sym h.0.4), (h.1.0, h.1.2, h.1.1))
 
--- ---- bodies
+-- methods that have one signature with a third have one
+pub signature_through : (w : World) → IsSound w → (c f m k : ℕ) → HaveOneSignatureIn w c f m → HaveOneSignatureIn w c f k → HaveOneSignatureIn w c m k
+signature_through w sound c f m k a b =
+    let same_f : a.0.0 ≡ b.0.0 = cc (a.0.2.0, b.0.2.0) in
+    let same : b.1.0 ≡ a.1.0 = one_params w sound c f b.1.0 a.1.0 b.1.1 a.1.1 in
+    ((a.0.1, b.0.1, a.0.3, b.0.3, sym a.0.4 ∙ ap (λ (i : MethodInfo). i.name) same_f ∙ b.0.4), (a.1.0, a.1.2, subst (HasParams w c k) same b.1.2))
 
-pub lacks_none : (w : World) (c i : ℕ) (ms : List ℕ) → AreMembers w c ms → AreClear (IsUnmet w c) ms i → length ms ≤ i → LacksBody w c → ⊥
-lacks_none w c i ms members clear le h =
-    all_clear (IsUnmet w c) ms i clear le h.1.0 ((members h.1.0).1 h.1.1) (h.1.2, λ k body. h.1.3 k body.0 body.1 body.2)
+-- where m stands in the list
+place_of : (ms : List ℕ) (m : ℕ) → Contains ms m → (j : ℕ) × (j < length ms) × (slice_get ms j ≡ Some m)
+place_of ms m has = (has.0, has.1, slice_get_read ms (length ms) has.0 m refl has.1 (sym has.2))
 
--- ---- results
+-- ---- numbers
 
-fits_itself : (w : World) (r : Option JavaType) → FitsResult w r r
-fits_itself w None = tt
-fits_itself w (Some t) = inl refl
+member_method : (w : World) (c m : ℕ) → IsMemberMethod w c m → (info : MethodInfo) × IsMethod w m info
+member_method w c m (declared d) = (d.0, d.1)
+member_method w c m (inherited {s = s} above member kept none) = member_method w s m member
 
-unlike_swap : (w : World) (c m k : ℕ) → AreUnlike w c m k → AreUnlike w c k m
-unlike_swap w c m k h = (h.1, h.0, h.3, h.2, h.5, h.4)
+module _ (w : World) (numbers : List ℕ) (erasures : AreErased w numbers) where
+  -- each method has a number
+  pub number_of : (m : ℕ) (info : MethodInfo) → slice_get w.methods m ≡ Some info → (n : ℕ) × (slice_get numbers m ≡ Some n)
+  number_of m info at = let lt = slice_get_within w.methods m info at in let size = erasures.size in there_is numbers m (omega (arith, lt, size))
 
-not_unlike_itself : (w : World) → IsSound w → (c m : ℕ) → AreUnlike w c m m → ⊥
-not_unlike_itself w sound c m h = h.4 (subst (FitsResult w h.0) (one_result w sound c m h.0 h.1 h.2 h.3) (fits_itself w h.0))
+  -- so has each member
+  pub member_within : (c : ℕ) (ms : List ℕ) → AreMembers w c ms → (m : ℕ) → Contains ms m → m < length numbers
+  member_within c ms members m has =
+      let is = member_method w c m ((members m).0 has) in
+      let lt = slice_get_within w.methods m is.0 is.1.0 in
+      let size = erasures.size in
+      omega (arith, lt, size)
 
--- What is told of two methods of one signature, where the first test is that no result r fits q, and the second whether q fits r.
-pub unlike_told : (w : World) (c m k : ℕ) (r q : Option JavaType) (told fits : Bool) → HaveOneSignatureIn w c m k → TellsResult w c m (Some r) → TellsResult w c k (Some q) → (FitsResult w r q → ⊥)
-    → told ≡ not fits → IsTrue fits ↔ FitsResult w q r → IsTrue told ↔ (HaveOneSignatureIn w c m k × AreUnlike w c m k)
-unlike_told w c m k r q told fits one first second apart is fit = (
-  λ h. (one, (r, q, first.0, second.0, apart, λ f. let yes = fit.1 f in absurd (told_not told fits is h yes))),
-  λ h.
-      let same_r = first.1 h.1.0 h.1.2 in
-      let same_q = second.1 h.1.1 h.1.3 in
-      told_from told fits is (λ yes. h.1.5 (subst (FitsResult w h.1.1) (sym same_r) (subst (λ x. FitsResult w x r) (sym same_q) (fit.0 yes)))),
-)
-  where
-    told_not : (told fits : Bool) → told ≡ not fits → IsTrue told → IsTrue fits → ⊥
-    told_not told true is h fine = cc (is, h)
-    told_not told false is h fine = cc fine
+  -- methods without type variables have one number where they have one signature
+  closed_number : (c m k a b : ℕ) → HaveOneSignatureIn w c m k → HasClosedParams w m → HasClosedParams w k → slice_get numbers m ≡ Some a → slice_get numbers k ≡ Some b → a ≡ b
+  closed_number c m k a b h closed_m closed_k at_m at_k =
+      let i = h.0.0 in
+      let j = h.0.1 in
+      let p = signature_params w c m k i j h.0.2 h.0.3 h in
+      let same : i.params ≡ j.params = sym (closed_m i h.0.2 p.0) ∙ p.2 ∙ closed_k j h.0.3 p.1 in
+      (erasures.told m k a b i j h.0.2.0 h.0.3.0 at_m at_k).1 (h.0.4, ap (map erased) same)
 
-    told_from : (told fits : Bool) → told ≡ not fits → (IsTrue fits → ⊥) → IsTrue told
-    told_from told true is none = absurd (none refl)
-    told_from told false is none = is
+  -- methods of one number have one erasure
+  pub one_erasure : (m k n : ℕ) (i j : MethodInfo) → IsMethod w m i → IsMethod w k j → slice_get numbers m ≡ Some n → slice_get numbers k ≡ Some n → HaveOneErasure w m k
+  one_erasure m k n i j mi kj at_m at_k = let told = (erasures.told m k n n i j mi.0 kj.0 at_m at_k).0 refl in (i, j, mi, kj, told.0, told.1)
 
--- where the result of m fits that of k, they are not unlike
-pub like_told : (w : World) (c m k : ℕ) (r q : Option JavaType) → TellsResult w c m (Some r) → TellsResult w c k (Some q) → FitsResult w r q → AreUnlike w c m k → ⊥
-like_told w c m k r q first second fit h =
-    let same_r = first.1 h.0 h.2 in
-    let same_q = second.1 h.1 h.3 in
-    h.4 (subst (FitsResult w h.0) (sym same_q) (subst (λ x. FitsResult w x q) (sym same_r) fit))
+  -- ---- members that may have one signature
 
--- an inherited method that is unlike one declared later
-abbrev pub IsFirstUnlike : World → ℕ → ℕ → Type 0
-IsFirstUnlike w c m = (DeclaresMethod w c m → ⊥) × ((k : ℕ) × IsUnlikeLater w c m k)
+  module _ (c : ℕ) (ms : List ℕ) where
+    pub single_none : (has : ℕ → Bool) → AreSingle w c numbers ms 0 has
+    single_none has = record { held = λ j m n lt. absurd (omega (arith, lt)); closed = λ j m lt. absurd (omega (arith, lt)); apart = λ j l m k n _ lt. absurd (omega (arith, lt)) }
 
-pub unlike_from : (w : World) (c m : ℕ) (ms : List ℕ) → AreMembers w c ms → Contains ms m → IsFirstUnlike w c m → HasUnlikeResults w c
-unlike_from w c m ms members has h =
-    let k = h.1.0 in
-    let later = h.1.1 in
-    let unlike = later.3 in
-    (m, k, ((members m).0 has, h.0), later.1, later.2, unlike.0, unlike.1, unlike.2, unlike.3, unlike.4, unlike.5)
+    -- one that c declares
+    pub single_skip : (i m : ℕ) (has : ℕ → Bool) → slice_get ms i ≡ Some m → DeclaresMethod w c m → AreSingle w c numbers ms i has → AreSingle w c numbers ms (i + 1) has
+    single_skip i m has at own old = record {
+      held = λ j x q lt at_j other number_x. old.held j x q (low j x lt at_j other) at_j other number_x;
+      closed = λ j x lt at_j other. old.closed j x (low j x lt at_j other) at_j other;
+      apart = λ j l x y q less lt at_j at_l other_x other_y. old.apart j l x y q less (low l y lt at_l other_y) at_j at_l other_x other_y;
+    }
+      where
+        low : (j x : ℕ) → j < i + 1 → slice_get ms j ≡ Some x → (DeclaresMethod w c x → ⊥) → j < i
+        low j x lt at_j other = elim (lower_or_last j i lt) [
+          | inl before ↦ before
+          | inr last ↦
+              let same : m ≡ x = let both : Some m ≡ Some x = sym at ∙ ap (slice_get ms) (sym last) ∙ at_j in cc both in
+              absurd (other (subst (DeclaresMethod w c) same own))
+        ]
 
-pub unlike_none : (w : World) → IsSound w → (c i : ℕ) (ms : List ℕ) → AreMembers w c ms → AreClear (IsFirstUnlike w c) ms i → length ms ≤ i → HasUnlikeResults w c → ⊥
-unlike_none w sound c i ms members clear le h =
-    let m = h.0 in
-    let k = h.1 in
-    let unlike : AreUnlike w c m k = (h.5, h.6, h.7, h.8, h.9, h.10) in
-    elim (one_first m k) [
-      | inl before ↦ all_clear (IsFirstUnlike w c) ms i clear le m ((members m).1 h.2.0) (h.2.1, (k, (before, h.3, h.4, unlike)))
-      | inr (inl same) ↦ not_unlike_itself w sound c m (subst (AreUnlike w c m) (sym same) unlike)
-      | inr (inr behind) ↦
-          all_clear (IsFirstUnlike w c) ms i clear le k ((members k).1 h.3.0) (h.3.1, (m, (behind, h.2, signature_swap w c m k h.4, unlike_swap w c m k unlike)))
-    ]
+    -- one of a new number
+    pub single_more : (i m n : ℕ) (has new : ℕ → Bool) → slice_get ms i ≡ Some m → slice_get numbers m ≡ Some n → has n ≡ false → ((q : ℕ) → new q ≡ cond (nat_eq n q) true (has q)) → HasClosedParams w m
+        → AreSingle w c numbers ms i has → AreSingle w c numbers ms (i + 1) new
+    single_more i m n has new at number fresh puts no_variables old = record {
+      held = λ j x q lt at_j other number_x. elim (lower_or_last j i lt) [
+        | inl before ↦ puts q ∙ more (nat_eq n q) (has q) (old.held j x q before at_j other number_x)
+        | inr last ↦ puts q ∙ cond-true _ _ _ (eq-eqb n q (sym (same_number x q (same_at j x last at_j) number_x)))
+      ];
+      closed = λ j x lt at_j other. elim (lower_or_last j i lt) [
+        | inl before ↦ old.closed j x before at_j other
+        | inr last ↦ subst (HasClosedParams w) (sym (same_at j x last at_j)) no_variables
+      ];
+      apart = λ j l x y q less lt at_j at_l other_x other_y number_x number_y. elim (lower_or_last l i lt) [
+        | inl before ↦ old.apart j l x y q less before at_j at_l other_x other_y number_x number_y
+        | inr last ↦
+            let there = old.held j x q (omega (arith, less, last)) at_j other_x number_x in
+            let same = same_number y q (same_at l y last at_l) number_y in
+            let never : true ≡ false = sym there ∙ ap has same ∙ fresh in
+            cc never
+      ];
+    }
+      where
+        same_at : (j x : ℕ) → j ≡ i → slice_get ms j ≡ Some x → x ≡ m
+        same_at j x last at_j = let both : Some x ≡ Some m = sym at_j ∙ ap (slice_get ms) last ∙ at in cc both
 
--- ---- clashes
+        same_number : (x q : ℕ) → x ≡ m → slice_get numbers x ≡ Some q → q ≡ n
+        same_number x q same number_x = let both : Some q ≡ Some n = sym number_x ∙ ap (slice_get numbers) same ∙ number in cc both
 
-pub erasure_swap : (w : World) (m k : ℕ) → HaveOneErasure w m k → HaveOneErasure w k m
-erasure_swap w m k h = (h.1, h.0, h.3, h.2, sym h.4, sym h.5)
+        more : (b x : Bool) → x ≡ true → cond b true x ≡ true
+        more true x on = refl
+        more false x on = on
 
-pub erasure_namesakes : (w : World) (m k : ℕ) → HaveOneErasure w m k → AreNamesakes w k m
-erasure_namesakes w m k h = (h.1, h.0, h.3, h.2, sym h.4, sym (length_map erased h.1.params) ∙ ap length (sym h.5) ∙ length_map erased h.0.params)
+    -- two members, the first before the second
+    single_before : (i j l m k : ℕ) (has : ℕ → Bool) → AreSingle w c numbers ms i has → j < l → l < i → slice_get ms j ≡ Some m → slice_get ms l ≡ Some k → (DeclaresMethod w c m → ⊥) → (DeclaresMethod w c k → ⊥)
+        → HaveOneSignatureIn w c m k → ⊥
+    single_before i j l m k has single less lt at_m at_k other_m other_k one =
+        let a = number_of m one.0.0 one.0.2.0 in
+        let b = number_of k one.0.1 one.0.3.0 in
+        let same = closed_number c m k a.0 b.0 one (single.closed j m (omega (arith, less, lt)) at_m other_m) (single.closed l k lt at_k other_k) a.1 b.1 in
+        single.apart j l m k a.0 less lt at_m at_k other_m other_k a.1 (b.1 ∙ ap Some (sym same))
 
--- a member that clashes with one declared later
-abbrev pub IsFirstClash : World → ℕ → ℕ → Type 0
-IsFirstClash w c m = (k : ℕ) × ClashesLater w c m k
+    -- no two have one signature
+    pub single_told : (i : ℕ) (has : ℕ → Bool) → AreMembers w c ms → AreSingle w c numbers ms i has → length ms ≤ i → (m k : ℕ) → IsInherited w c m → IsInherited w c k → HaveOneSignatureIn w c m k → m ≡ k
+    single_told i has members single le m k inherits_m inherits_k one =
+        let at_m = place_of ms m ((members m).1 inherits_m.0) in
+        let at_k = place_of ms k ((members k).1 inherits_k.0) in
+        elim (one_first at_m.0 at_k.0) [
+          | inl before ↦ absurd (single_before i at_m.0 at_k.0 m k has single before (omega (arith, at_k.1, le)) at_m.2 at_k.2 inherits_m.1 inherits_k.1 one)
+          | inr (inl same) ↦ let both : Some m ≡ Some k = sym at_m.2 ∙ ap (slice_get ms) same ∙ at_k.2 in cc both
+          | inr (inr behind) ↦ absurd (single_before i at_k.0 at_m.0 k m has single behind (omega (arith, at_m.1, le)) at_k.2 at_m.2 inherits_k.1 inherits_m.1 (signature_swap w c m k one))
+        ]
 
-pub clash_from : (w : World) (c m : ℕ) (ms : List ℕ) → AreMembers w c ms → Contains ms m → IsFirstClash w c m → HasClash w c
-clash_from w c m ms members has h = let later = h.1 in (m, h.0, (members m).0 has, later.1, later.2, later.3)
+  -- ---- clashes
 
-pub clash_none : (w : World) → IsSound w → (c i : ℕ) (ms : List ℕ) → IsKnown w c → AreMembers w c ms → AreClear (IsFirstClash w c) ms i → length ms ≤ i → HasClash w c → ⊥
-clash_none w sound c i ms known members clear le h =
-    let m = h.0 in
-    let k = h.1 in
-    elim (one_first m k) [
-      | inl before ↦ all_clear (IsFirstClash w c) ms i clear le m ((members m).1 h.2) (k, (before, h.3, h.4, h.5))
-      | inr (inl same) ↦ h.5 (subst (HaveOneSignatureIn w c m) same (own_signature w sound c m known.0 known.1 h.2))
-      | inr (inr behind) ↦
-          all_clear (IsFirstClash w c) ms i clear le k ((members k).1 h.3) (m, (behind, h.2, erasure_swap w m k h.4, λ one. h.5 (signature_swap w c k m one)))
-    ]
+  module _ (sound : IsSound w) (c : ℕ) (ms : List ℕ) where
+    pub like_none : (find : ℕ → Option ℕ) → ((n : ℕ) → find n ≡ None) → AreLike w c numbers ms 0 find
+    like_none find none = record { kept = λ j m n lt. absurd (omega (arith, lt)); from = λ n f e. let never : None ≡ Some f = sym (none n) ∙ e in absurd (cc never) }
+
+    -- the next one has one signature with the first of its number
+    pub like_same : (i m n f : ℕ) (find : ℕ → Option ℕ) → slice_get ms i ≡ Some m → slice_get numbers m ≡ Some n → find n ≡ Some f → HaveOneSignatureIn w c f m → AreLike w c numbers ms i find
+        → AreLike w c numbers ms (i + 1) find
+    like_same i m n f find at number found one old = record {
+      kept = λ j x q lt at_j number_x. elim (lower_or_last j i lt) [
+        | inl before ↦ old.kept j x q before at_j number_x
+        | inr last ↦
+            let same : m ≡ x = let both : Some m ≡ Some x = sym at ∙ ap (slice_get ms) (sym last) ∙ at_j in cc both in
+            let same_n : n ≡ q = let both : Some n ≡ Some q = sym number ∙ ap (slice_get numbers) same ∙ number_x in cc both in
+            (f, ap find (sym same_n) ∙ found, subst (HaveOneSignatureIn w c f) same one)
+      ];
+      from = old.from;
+    }
+
+    -- the next one is the first of its number
+    pub like_more : (i m n : ℕ) (find new : ℕ → Option ℕ) → slice_get ms i ≡ Some m → slice_get numbers m ≡ Some n → find n ≡ None → ((q : ℕ) → new q ≡ cond (nat_eq n q) (Some m) (find q)) → IsMemberMethod w c m
+        → HaveOneSignatureIn w c m m → AreLike w c numbers ms i find → AreLike w c numbers ms (i + 1) new
+    like_more i m n find new at number none puts member one old = record {
+      kept = λ j x q lt at_j number_x. elim (lower_or_last j i lt) [
+        | inl before ↦
+            let k = old.kept j x q before at_j number_x in
+            let other : n ≡ q → ⊥ = λ e. let never : None ≡ Some k.0 = sym none ∙ ap find e ∙ k.1 in cc never in
+            (k.0, puts q ∙ cond-false _ _ _ (ne_eqb n q other) ∙ k.1, k.2)
+        | inr last ↦
+            let same : m ≡ x = let both : Some m ≡ Some x = sym at ∙ ap (slice_get ms) (sym last) ∙ at_j in cc both in
+            let same_n : n ≡ q = let both : Some n ≡ Some q = sym number ∙ ap (slice_get numbers) same ∙ number_x in cc both in
+            (m, puts q ∙ cond-true _ _ _ (eq-eqb n q same_n), subst (HaveOneSignatureIn w c m) same one)
+      ];
+      from = λ q f e. elim (cases_eq n q) [
+        | inl same ↦
+            let is : m ≡ f = let both : Some m ≡ Some f = sym (cond-true _ _ _ (eq-eqb n q same)) ∙ sym (puts q) ∙ e in cc both in
+            (ap (slice_get numbers) (sym is) ∙ number ∙ ap Some same, subst (IsMemberMethod w c) is member)
+        | inr other ↦ old.from q f (sym (cond-false _ _ _ (ne_eqb n q other)) ∙ sym (puts q) ∙ e)
+      ];
+    }
+
+    pub clash_none : (i : ℕ) (find : ℕ → Option ℕ) → AreMembers w c ms → AreLike w c numbers ms i find → length ms ≤ i → HasClash w c → ⊥
+    clash_none i find members like le h =
+        let m = h.0 in
+        let k = h.1 in
+        let at_m = place_of ms m ((members m).1 h.2) in
+        let at_k = place_of ms k ((members k).1 h.3) in
+        let erasure = h.4 in
+        let a = number_of m erasure.0 erasure.2.0 in
+        let b = number_of k erasure.1 erasure.3.0 in
+        let same : a.0 ≡ b.0 = (erasures.told m k a.0 b.0 erasure.0 erasure.1 erasure.2.0 erasure.3.0 a.1 b.1).1 (erasure.4, erasure.5) in
+        let first = like.kept at_m.0 m a.0 (omega (arith, at_m.1, le)) at_m.2 a.1 in
+        let second = like.kept at_k.0 k b.0 (omega (arith, at_k.1, le)) at_k.2 b.1 in
+        let one : second.0 ≡ first.0 = let both : Some second.0 ≡ Some first.0 = sym second.1 ∙ ap find (sym same) ∙ first.1 in cc both in
+        h.5 (signature_through w sound c first.0 m k first.2 (subst (λ f. HaveOneSignatureIn w c f k) one second.2))
+
+    -- a member that has not the signature of the first of its number
+    pub clash_told : (m n f : ℕ) (i : ℕ) (find : ℕ → Option ℕ) → IsKnown w c → AreMembers w c ms → Contains ms m → slice_get numbers m ≡ Some n → find n ≡ Some f → AreLike w c numbers ms i find
+        → (HaveOneSignatureIn w c f m → ⊥) → HasClash w c
+    clash_told m n f i find known members has number found like other =
+        let from = like.from n f found in
+        let member = (members m).0 has in
+        let first = member_seen w sound c f from.1 known.0 known.1 in
+        let second = member_seen w sound c m member known.0 known.1 in
+        (f, m, from.1, member, one_erasure f m n first.0 second.0 first.1 second.1 from.0 number, other)

@@ -1,3 +1,4 @@
 pub mod Rules
-pub mod Typed
 pub mod Parts
+pub mod Numbers
+pub mod Chains

@@ -1,5 +1,6 @@
 -- What the parts of the search look for.
-use Rattle.std.specs.Prelude.{◌≡◌, ◌<◌, ◌≤◌, ℕ, Option, Some, None, slice_get}
+use Rattle.std.specs.Prelude.{◌≡◌, ◌↔◌, ◌≤◌, ℕ, Bool, true, List, Option, Some, None, slice_get}
+use Rattle.std.specs.List.{Contains}
 use Rattle.class_world.specs.declared.world.World.{World}
 use Rattle.class_world.specs.declared.world.TypeInfo.{TypeInfo}
 use Rattle.class_world.specs.declared.world.JavaType.{JavaType}
@@ -9,7 +10,9 @@ use Rattle.class_world.specs.Inheritance.{IsMemberMethod}
 use Rattle.class_world.specs.Overriding.{Overriding}
 use Rattle.rule_order.specs.First.{Breaches}
 use Rattle.seen_methods.specs.Seen.{HasResult}
-use Rattle.inherited_rules.specs.Rules.{Breaks, FitsResult, HaveOneErasure, IsAbstractMethod, IsInherited}
+use Rattle.numbered_methods.specs.declared.NumberedMethods.{NumberedMethods}
+use Rattle.numbered_methods.specs.Alike.{IsNumbered}
+use Rattle.inherited_rules.specs.Rules.{Breaks, FitsResult, IsAbstractMethod}
 
 -- what the type c breaks, at its node
 abbrev pub BreachesOf : World → ℕ → Breaches
@@ -24,21 +27,33 @@ IsLowest w c (Some lowest) = Breaks w c lowest × ((rule : ℕ) → Breaks w c r
 abbrev pub IsBodyOf : World → ℕ → ℕ → ℕ → Type 0
 IsBodyOf w c m k = IsMemberMethod w c k × (IsAbstractMethod w k → ⊥) × Overriding w k m
 
+-- the table has the members of c that have bodies, as c sees them
+abbrev pub HasBodies : World → ℕ → NumberedMethods → Type 0
+HasBodies w c t = (ks : List ℕ) × ((k : ℕ) → Contains ks k ↔ (IsMemberMethod w c k × (IsAbstractMethod w k → ⊥))) × IsNumbered w c ks t
+
 -- an abstract method for which c has no body
 abbrev pub IsUnmet : World → ℕ → ℕ → Type 0
 IsUnmet w c m = IsAbstractMethod w m × ((k : ℕ) → IsBodyOf w c m k → ⊥)
 
--- as the type c sees them, neither result fits the other
+-- neither result fits the other
+abbrev pub IsUnlike : World → Option JavaType → Option JavaType → Type 0
+IsUnlike w r q = (FitsResult w r q → ⊥) × (FitsResult w q r → ⊥)
+
+-- the results of two methods, as the type c sees them, are unlike
 abbrev pub AreUnlike : World → ℕ → ℕ → ℕ → Type 0
-AreUnlike w c m k = (r : Option JavaType) × (q : Option JavaType) × HasResult w c m r × HasResult w c k q × (FitsResult w r q → ⊥) × (FitsResult w q r → ⊥)
+AreUnlike w c m k = (r : Option JavaType) × (q : Option JavaType) × HasResult w c m r × HasResult w c k q × IsUnlike w r q
 
--- a method k declared later, that c does not declare either, and whose result is unlike that of m
-abbrev pub IsUnlikeLater : World → ℕ → ℕ → ℕ → Type 0
-IsUnlikeLater w c m k = (m < k) × IsInherited w c k × HaveOneSignatureIn w c m k × AreUnlike w c m k
+-- two of the methods have one signature in c, and unlike results
+abbrev pub HasUnlikePair : World → ℕ → List ℕ → Type 0
+HasUnlikePair w c ms = (m : ℕ) × (k : ℕ) × Contains ms m × Contains ms k × HaveOneSignatureIn w c m k × AreUnlike w c m k
 
--- a member k declared later that clashes with m
-abbrev pub ClashesLater : World → ℕ → ℕ → ℕ → Type 0
-ClashesLater w c m k = (m < k) × IsMemberMethod w c k × HaveOneErasure w m k × (HaveOneSignatureIn w c m k → ⊥)
+-- none of the methods has the signature of m and an unlike result
+abbrev pub IsJudged : World → ℕ → List ℕ → ℕ → Type 0
+IsJudged w c ms m = (k : ℕ) → Contains ms k → HaveOneSignatureIn w c m k → AreUnlike w c m k → ⊥
+
+-- so for each method of a set
+abbrev pub AreJudged : World → ℕ → List ℕ → (ℕ → Bool) → Type 0
+AreJudged w c ms has = (m : ℕ) → has m ≡ true → IsJudged w c ms m
 
 -- a result, if it is one, is a type of the world
 abbrev pub IsResult : World → Option JavaType → Type 0

@@ -2,12 +2,12 @@
 #![tactic(auto)]
 
 mod bodies;
+mod chain;
 mod clashes;
-mod erasures;
+mod fit;
 mod methods;
+mod numbers;
 mod results;
 mod search;
-#[cfg(test)]
-mod tests;
 
 pub use search::first_inherited_breach;

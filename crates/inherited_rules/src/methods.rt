@@ -1,6 +1,8 @@
 //! Methods by number.
 
-ghost use Rattle.std.specs.Prelude.{◌↔◌, IsTrue, IfSome, IfNone};
+ghost use Rattle.std.specs.Prelude.{ℕ, ◌↔◌, IsTrue, IfSome, IfNone};
+ghost use Rattle.std.specs.List.{Contains};
+ghost use Rattle.std.specs.List.Sorted.{IsStrictlyIncreasing};
 ghost use Rattle.class_world.specs.declared.world.MethodInfo as infos;
 ghost use Rattle.class_world.specs.Access.{IsInterface};
 ghost use Rattle.class_world.specs.Signatures.{IsMethod};
@@ -50,4 +52,14 @@ fn is_interface(w: &World, c: u32) -> bool
         Some(info) => info.interface,
         None => false,
     }
+}
+
+/// The numbers, ascending and each once.
+pub(crate) fn ascending(mut xs: Vec<u32>) -> Vec<u32>
+    ensures has { (x : ℕ) → Contains result.items x ↔ Contains xs.items x }
+    ensures ascending { IsStrictlyIncreasing result.items }
+{
+    xs.sort_unstable();
+    xs.dedup();
+    xs
 }

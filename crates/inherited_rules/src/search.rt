@@ -6,11 +6,13 @@ ghost use Rattle.rule_order.specs.First.{IsFirst};
 ghost use Rattle.member_methods.specs.Methods.{AreMembers, HoldsMethods};
 ghost use Rattle.overrides.specs.Overrides.{HoldsOverrides};
 ghost use Rattle.inherited_rules.specs.Rules.{InheritedBreaches};
-ghost use Rattle.inherited_rules.specs.Typed.{HaveTypes};
+ghost use Rattle.class_world.specs.Typed.{HaveTypes};
 ghost use Rattle.inherited_rules.specs.Parts.{BreachesOf, IsLowest};
+ghost use Rattle.inherited_rules.specs.Numbers.{AreErased};
 
 use crate::bodies::lacks_body;
 use crate::clashes::has_clash;
+use crate::numbers::erased_numbers;
 use crate::results::has_unlike_results;
 use class_world::World;
 use java_tree::NoMemory;
@@ -21,7 +23,7 @@ use std::alloc::Global;
 
 /// The first of DR18 to DR20 that is broken: at the first type by node, and there the lowest number. `NoMemory` also where there are 2^32 types.
 ///
-/// Takes time for the member methods of the types that have a node and, in each type, for the pairs of those of one name and one number of parameters. Most pairs of other parameter types take no memory. In a type with many overloads of one number of parameters the pairs are what counts; a table of erased signatures would leave the members.
+/// Takes time for the member methods of the types that have a node. For DR19 the inherited ones of a type are numbered by their signatures where two have one erased signature, or one has type variables in its parameter types; the different results of one signature are put in the order of their types, by halving, and only one that has no place there is compared with all of them. For DR18 an abstract one is compared with at most four others, or with the bodies of its signature.
 pub fn first_inherited_breach(
     alloc: Global,
     w: &World,
@@ -38,9 +40,11 @@ pub fn first_inherited_breach(
     if w.types.len() > u32::MAX as usize {
         return Err(NoMemory);
     }
+    let numbers = erased_numbers(alloc, w)?;
+    let numbers = numbers.as_slice();
     let mut first = None;
     for c in 0..w.types.len() as u32 {
-        first = earlier(first, breach_of(alloc, w, lists, overrides, c)?);
+        first = earlier(first, breach_of(alloc, w, lists, overrides, numbers, c)?);
     }
     Ok(first)
 }
@@ -51,12 +55,14 @@ fn breach_of(
     w: &World,
     lists: &MethodLists,
     overrides: &Overrides,
+    numbers: &[u32],
     c: u32,
 ) -> Result<Option<Breach>, NoMemory>
     requires sound { IsSound w.now }
     requires typed { HaveTypes w.now }
     requires lists { HoldsMethods w.now lists.now }
     requires overrides { HoldsOverrides w.now overrides.now }
+    requires numbers { AreErased w.now numbers.now }
     ensures { IfOk result (λ o. IsFirst (BreachesOf w.now c) o) }
 {
     let Some(info) = w.types.get(c as usize) else {
@@ -66,7 +72,7 @@ fn breach_of(
         return Ok(None);
     };
     let members = lists.all(alloc, c)?;
-    match lowest_rule(alloc, w, lists, overrides, c, members.as_slice())? {
+    match lowest_rule(alloc, w, lists, overrides, numbers, c, members.as_slice())? {
         Some(rule) => Ok(Some(Breach { node, rule })),
         None => Ok(None),
     }
@@ -78,6 +84,7 @@ fn lowest_rule(
     w: &World,
     lists: &MethodLists,
     overrides: &Overrides,
+    numbers: &[u32],
     c: u32,
     members: &[u32],
 ) -> Result<Option<u8>, NoMemory>
@@ -86,16 +93,17 @@ fn lowest_rule(
     requires known { IsKnown w.now c }
     requires lists { HoldsMethods w.now lists.now }
     requires overrides { HoldsOverrides w.now overrides.now }
+    requires numbers { AreErased w.now numbers.now }
     requires members { AreMembers w.now c members.now }
     ensures { IfOk result (λ o. IsLowest w.now c o) }
 {
-    if lacks_body(w, lists, overrides, c, members) {
+    if lacks_body(alloc, w, lists, overrides, c, members)? {
         return Ok(Some(18));
     }
-    if has_unlike_results(alloc, w, lists, c, members)? {
+    if has_unlike_results(alloc, w, numbers, c, members)? {
         return Ok(Some(19));
     }
-    if has_clash(alloc, w, lists, c, members)? {
+    if has_clash(alloc, w, numbers, c, members)? {
         return Ok(Some(20));
     }
     Ok(None)

@@ -4,8 +4,6 @@
 mod laws;
 pub mod reads;
 mod sorts;
-#[cfg(test)]
-mod tests;
 pub mod token;
 mod toks;
 

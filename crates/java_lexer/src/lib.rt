@@ -11,8 +11,6 @@ mod lexer;
 mod literal;
 mod number;
 pub mod piece;
-#[cfg(test)]
-mod tests;
 mod text;
 mod values;
 

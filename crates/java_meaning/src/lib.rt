@@ -6,7 +6,5 @@ mod machine;
 mod run;
 mod steps;
 mod tables;
-#[cfg(test)]
-mod tests;
 
 pub use run::{End, Run, run_small};

@@ -6,8 +6,6 @@ mod decls;
 mod laws;
 mod members;
 mod read;
-#[cfg(test)]
-mod tests;
 mod units;
 mod words;
 

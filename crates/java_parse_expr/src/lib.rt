@@ -7,8 +7,6 @@ mod parts;
 mod read;
 pub mod steps;
 pub mod stmt;
-#[cfg(test)]
-mod tests;
 
 pub use java_parse_term::SyntaxFault;
 pub use laws::one_statement;

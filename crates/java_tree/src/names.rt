@@ -123,25 +123,3 @@ impl Names {
         }
     }
 }
-
-#[cfg(test)]
-mod tests {
-    use super::{BUILT_IN_TYPES, Names};
-    use crate::tree::Name;
-    use std::test::Fail;
-
-    #[test]
-    fn a_new_text_comes_after_the_built_in_ones(rt: HostRuntime) -> Result<(), Fail> {
-        let mut names = Names::new(rt.alloc())?;
-        assert_eq!(rt; names.len(), BUILT_IN_TYPES as usize);
-        assert_eq!(rt; names.find("Object"), Some(Name(0)));
-        assert_eq!(rt; names.find("String"), Some(Name(1)));
-        assert_eq!(rt; names.find("total"), None);
-        let total = names.intern("total")?;
-        assert_eq!(rt; total, Name(16));
-        assert_eq!(rt; names.intern("total")?, Name(16));
-        assert_eq!(rt; names.intern("Object")?, Name(0));
-        assert_eq!(rt; names.text(total), "total");
-        Ok(())
-    }
-}

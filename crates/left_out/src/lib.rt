@@ -4,7 +4,5 @@
 mod before;
 mod first;
 mod rule;
-#[cfg(test)]
-mod tests;
 
 pub use first::{LeftOut, first_left_out};

@@ -5,8 +5,6 @@ mod build;
 mod inherited;
 mod own;
 mod tables;
-#[cfg(test)]
-mod tests;
 mod values;
 
 pub use tables::FieldTable;

@@ -1,5 +1,6 @@
 pub mod Firsts
 pub mod Seen
+pub mod Sets
 pub mod Arena
 pub mod Maps
 pub mod Numbers

@@ -1,5 +1,5 @@
 -- The maps of one type, from those of the types directly above it.
-use Rattle.std.proofs.Common.{◌≡◌, ℕ, zero, suc, ◌<◌, List, [], Option, Some, inl, inr, ◌↔◌, map, refl, sym, ap, ◌∙◌, subst, length, arith}
+use Rattle.std.proofs.Common.{◌≡◌, ℕ, zero, suc, ◌<◌, List, [], Option, Some, ◌⊎◌, inl, inr, ◌↔◌, map, refl, sym, ap, ◌∙◌, subst, length, arith}
 use Rattle.std.specs.Prelude.{slice_get, slice_set, replicate}
 use Rattle.std.specs.List.{Contains}
 use Rattle.std.proofs.lemmas.Bool.{cases_eq}
@@ -7,7 +7,10 @@ use Rattle.std.proofs.lemmas.List.{length-set, length-replicate}
 use Rattle.std.proofs.lemmas.Option.{slice_get_within}
 use Rattle.java_tree.specs.declared.tree.Name.{Name}
 use Rattle.class_world.specs.declared.world.World.{World}
+use Rattle.class_world.specs.declared.world.TypeInfo.{TypeInfo}
 use Rattle.class_world.specs.declared.world.MethodInfo.{MethodInfo}
+use Rattle.class_world.specs.declared.world.JavaType.TheVariants as ty
+use Rattle.class_world.specs.Sound.{IsSound}
 use Rattle.class_world.specs.Types.{substitute}
 use Rattle.class_world.specs.Signatures.{IsMethod, HaveOneName, HaveOneSignatureIn}
 use Rattle.class_world.specs.Inheritance.{IsDirectlyAbove, DeclaresMethod, IsMemberMethod, declared, inherited, IsPrivateMethod}
@@ -21,7 +24,7 @@ use Rattle.member_methods.specs.declared.made.Made.{Made}
 use Rattle.member_methods.specs.Keys.{key_of, AreKeys}
 use Rattle.member_methods.specs.Tables.{listed, IsGood, Keeps, IsMapOf}
 use Rattle.member_methods.specs.Own.{IsInGroup, AreGroups}
-use Rattle.member_methods.specs.Made.{IsKeyed, Has, HandsDown, HaveMaps, IsListedIn, Lists, IsWithAll, AreApart, HasMap, IsDone, IsMaking, IsReady}
+use Rattle.member_methods.specs.Made.{IsKeyed, Has, HandsDown, CanInherit, HaveMaps, IsListedIn, Lists, IsWithAll, AreApart, HasMap, IsDone, IsMaking, IsReady}
 use Rattle.member_methods.proofs.Maps.{keeps_both}
 
 -- ---- keys
@@ -83,13 +86,15 @@ pub has_made : (t : Tables) (maps more : List Map) (c : ℕ) (map : Map) (P : �
 has_made t maps more c map P lt made good has = record { map = map; at = ap (λ l. slice_get l c) made ∙ set_here maps c map lt; good = good; has = has }
 
 -- the maps of c are made
-module _ (w : World) (keyed : List ℕ) (limit c : ℕ) (old new : Made) (members handed : Map) (making : IsMaking w keyed limit old) (small : c < limit) (keeps : Keeps old.tables new.tables)
-    (are_members : new.members.items ≡ slice_set old.members.items c members) (are_handed : new.handed.items ≡ slice_set old.handed.items c handed)
-    (good : IsGood new.tables members) (good' : IsGood new.tables handed)
-    (has : (k m : ℕ) → Contains (listed new.tables members k) m ↔ Has w keyed c k m) (hands : (k m : ℕ) → Contains (listed new.tables handed k) m ↔ HandsDown w keyed c k m) where
+module _ (w : World) (keyed : List ℕ) (limit c : ℕ) (old new : Made) (members able handed : Map) (making : IsMaking w keyed limit old) (small : c < limit) (keeps : Keeps old.tables new.tables)
+    (are_members : new.members.items ≡ slice_set old.members.items c members) (are_able : new.inheritable.items ≡ slice_set old.inheritable.items c able)
+    (are_handed : new.handed.items ≡ slice_set old.handed.items c handed) (good : IsGood new.tables members) (good_able : IsGood new.tables able) (good' : IsGood new.tables handed)
+    (has : (k m : ℕ) → Contains (listed new.tables members k) m ↔ Has w keyed c k m) (can : (k m : ℕ) → Contains (listed new.tables able k) m ↔ CanInherit w keyed c k m)
+    (hands : (k m : ℕ) → Contains (listed new.tables handed k) m ↔ HandsDown w keyed c k m) where
   pub now_done : IsDone w keyed new c
   now_done = record {
     members = has_made new.tables old.members.items new.members.items c members _ (let n = making.members in omega (arith, small, n)) are_members good has;
+    inheritable = has_made new.tables old.inheritable.items new.inheritable.items c able _ (let n = making.inheritable in omega (arith, small, n)) are_able good_able can;
     handed = has_made new.tables old.handed.items new.handed.items c handed _ (let n = making.handed in omega (arith, small, n)) are_handed good' hands;
   }
 
@@ -98,6 +103,7 @@ module _ (w : World) (keyed : List ℕ) (limit c : ℕ) (old new : Made) (member
     | inl same ↦ subst (IsDone w keyed new) same now_done
     | inr other ↦ record {
       members = has_kept old.tables new.tables old.members.items new.members.items d _ keeps (ap (λ l. slice_get l d) are_members ∙ set_there old.members.items c d members other) h.members;
+      inheritable = has_kept old.tables new.tables old.inheritable.items new.inheritable.items d _ keeps (ap (λ l. slice_get l d) are_able ∙ set_there old.inheritable.items c d able other) h.inheritable;
       handed = has_kept old.tables new.tables old.handed.items new.handed.items d _ keeps (ap (λ l. slice_get l d) are_handed ∙ set_there old.handed.items c d handed other) h.handed;
     }
   ]
@@ -105,6 +111,7 @@ module _ (w : World) (keyed : List ℕ) (limit c : ℕ) (old new : Made) (member
   pub still_making : IsMaking w keyed limit new
   still_making = record {
     members = ap length are_members ∙ length-set old.members.items c members ∙ making.members;
+    inheritable = ap length are_able ∙ length-set old.inheritable.items c able ∙ making.inheritable;
     handed = ap length are_handed ∙ length-set old.handed.items c handed ∙ making.handed;
     keys = keeps.keys ∙ making.keys;
     good = λ d map at. elim (cases_eq c d) [
@@ -133,6 +140,15 @@ pub lists_later : (t t' : Tables) (map : Map) (P : ℕ → ℕ → Type 0) → K
 lists_later t t' map P keeps good has k m = subst (λ l. Contains l m ↔ P k m) (sym (keeps.same map good k)) (has k m)
 
 -- ---- one type
+
+-- A type that is above itself is Object, and nothing else is above it.
+alone_above : (w : World) → IsSound w → (c : ℕ) → IsDirectlyAbove w c c → (s : ℕ) → IsDirectlyAbove w c s → s ≡ c
+alone_above w sound c (inl direct) s up = let falls = sound.falls c c direct.0 direct.1 in absurd (omega (arith, falls))
+alone_above w sound c (inr object) s (inr other) = other.0 ∙ sym object.0
+alone_above w sound c (inr object) s (inl direct) =
+    let same : direct.1.0 ≡ object.1.0 = cc (direct.1.1, object.1.1) in
+    let none : slice_get [] direct.1.2 ≡ Some (ty.Class s direct.0) = ap (λ l. slice_get l direct.1.2) (sym (ap (λ (i : TypeInfo). i.supers) same ∙ object.1.3)) ∙ direct.1.3 in
+    absurd (cc none)
 
 -- each type above has a map
 pub have_maps : (w : World) (keyed : List ℕ) (limit c : ℕ) (made : Made) (maps : List Map) (types : List ℕ) → IsMaking w keyed limit made → IsReady w keyed made c → c < limit → maps ≡ made.handed.items
@@ -222,8 +238,9 @@ module _ (w : World) (find : Key → Option ℕ) (keyed : List ℕ) (keys : AreK
       keys_below i g at = let small = group_below i g at in let now = is.keeps.keys in let then' = is'.keeps.keys in omega (arith, small, now, then')
 
       -- the type is done
-      module _ (new : Made) (handed : Map) (is'' : IsMapOf t' new.tables handed (λ k m. Lists t' mem k m × (IsPrivateMethod w m → ⊥))) (small : c < limit)
-          (are_members : new.members.items ≡ slice_set made.members.items c mem) (are_handed : new.handed.items ≡ slice_set made.handed.items c handed) where
+      module _ (new : Made) (able handed : Map) (is'' : IsMapOf t' new.tables handed (λ k m. Lists t' mem k m × (IsPrivateMethod w m → ⊥))) (small : c < limit) (sound : IsSound w)
+          (choice : ((able ≡ handed) × Contains types c) ⊎ ((able ≡ inh) × (Contains types c → ⊥))) (are_members : new.members.items ≡ slice_set made.members.items c mem)
+          (are_able : new.inheritable.items ≡ slice_set made.inheritable.items c able) (are_handed : new.handed.items ≡ slice_set made.handed.items c handed) where
         keeps : Keeps made.tables new.tables
         keeps = keeps_both made.tables t new.tables is.keeps (keeps_both t t' new.tables is'.keeps is''.keeps)
 
@@ -233,20 +250,54 @@ module _ (w : World) (find : Key → Option ℕ) (keyed : List ℕ) (keys : AreK
         hands : (k m : ℕ) → Lists new.tables handed k m ↔ HandsDown w keyed c k m
         hands k m = (λ x. let h = (is''.has k m).0 x in ((has_members k m).0 h.0, h.1), λ h. (is''.has k m).1 ((has_members k m).1 h.0, h.1))
 
+        later : Keeps t new.tables
+        later = keeps_both t t' new.tables is'.keeps is''.keeps
+
+        good_able : IsGood new.tables able
+        good_able = elim choice [
+          | inl x ↦ subst (IsGood new.tables) (sym x.0) is''.good
+          | inr x ↦ subst (IsGood new.tables) (sym x.0) (later.good inh is.good)
+        ]
+
+        -- what is above the type is its own, where it is above itself
+        of_itself : Contains types c → (k m : ℕ) → Lists new.tables handed k m ↔ CanInherit w keyed c k m
+        of_itself own_type k m = (
+          λ x. let h = (hands k m).0 x in (h.0.0, ((c, (above c).0 own_type, h.0.1), h.1)),
+          λ h.
+              let same = alone_above w sound c ((above c).0 own_type) h.1.0.0 h.1.0.1 in
+              (hands k m).1 ((h.0, subst (λ s. IsMemberMethod w s m) same h.1.0.2), h.1.1),
+        )
+
+        -- and that of others, where it is not
+        of_others : (Contains types c → ⊥) → (k m : ℕ) → Lists new.tables inh k m ↔ CanInherit w keyed c k m
+        of_others not = lists_later t new.tables inh (CanInherit w keyed c) later is.good (λ k m. (
+          λ x. let u = high_is k m ((is.has k m).0 x) in (u.2.0.0, ((u.0, u.1, u.2.0.1), u.2.1)),
+          λ h.
+              let s = h.1.0 in
+              (is.has k m).1 (high_of k m s.0 s.1 (λ same. not (subst (Contains types) same ((above s.0).1 s.1))) ((h.0, s.2), h.1.1)),
+        ))
+
+        can : (k m : ℕ) → Lists new.tables able k m ↔ CanInherit w keyed c k m
+        can k m = elim choice [
+          | inl x ↦ subst (λ map. Lists new.tables map k m ↔ CanInherit w keyed c k m) (sym x.0) (of_itself x.1 k m)
+          | inr x ↦ subst (λ map. Lists new.tables map k m ↔ CanInherit w keyed c k m) (sym x.0) (of_others x.1 k m)
+        ]
+
         pub step_done : IsDone w keyed new c
-        step_done = now_done w keyed limit c made new mem handed making small keeps are_members are_handed (is''.keeps.good mem is'.good) is''.good has hands
+        step_done = now_done w keyed limit c made new mem able handed making small keeps are_members are_able are_handed (is''.keeps.good mem is'.good) good_able is''.good has can hands
 
         pub step_kept : (d : ℕ) → IsDone w keyed made d → IsDone w keyed new d
-        step_kept = still_done w keyed limit c made new mem handed making small keeps are_members are_handed (is''.keeps.good mem is'.good) is''.good has hands
+        step_kept = still_done w keyed limit c made new mem able handed making small keeps are_members are_able are_handed (is''.keeps.good mem is'.good) good_able is''.good has can hands
 
         pub step_making : IsMaking w keyed limit new
-        step_making = still_making w keyed limit c made new mem handed making small keeps are_members are_handed (is''.keeps.good mem is'.good) is''.good has hands
+        step_making = still_making w keyed limit c made new mem able handed making small keeps are_members are_able are_handed (is''.keeps.good mem is'.good) good_able is''.good has can hands
 
 -- nothing is made yet
-pub making_none : (w : World) (keyed : List ℕ) (limit : ℕ) (made : Made) (empty : Map) → made.members.items ≡ replicate limit empty → made.handed.items ≡ replicate limit empty → made.tables.maps.keys ≡ length keyed
+pub making_none : (w : World) (keyed : List ℕ) (limit : ℕ) (made : Made) (empty : Map) → made.members.items ≡ replicate limit empty → made.inheritable.items ≡ replicate limit empty → made.handed.items ≡ replicate limit empty → made.tables.maps.keys ≡ length keyed
     → IsGood made.tables empty → ((k : ℕ) → listed made.tables empty k ≡ []) → IsMaking w keyed limit made
-making_none w keyed limit made empty members handed keys good none = record {
+making_none w keyed limit made empty members able handed keys good none = record {
   members = ap length members ∙ length-replicate limit empty;
+  inheritable = ap length able ∙ length-replicate limit empty;
   handed = ap length handed ∙ length-replicate limit empty;
   keys = keys;
   good = λ c map at. subst (IsGood made.tables) (sym (only c map at)) good;

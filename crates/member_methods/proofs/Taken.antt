@@ -1,8 +1,9 @@
 -- Maps with the methods of some groups put in, and with the private ones taken out.
-use Rattle.std.proofs.Common.{◌≡◌, ℕ, ◌+◌, ◌≤◌, zero, suc, List, ◌∷◌, ◌++◌, Some, ◌⊎◌, inl, inr, ◌↔◌, refl, sym, ap, ◌∙◌, subst, length, arith}
-use Rattle.std.specs.Prelude.{slice_get, slice_index_or}
+use Rattle.std.proofs.Common.{◌≡◌, ℕ, ◌+◌, ◌<◌, ◌≤◌, zero, suc, Bool, false, List, [], ◌∷◌, ◌++◌, Some, ◌⊎◌, inl, inr, ◌↔◌, refl, sym, ap, ◌∙◌, subst, length, take, drop, arith}
+use Rattle.std.specs.Prelude.{◌==◌, ◌-◌, ◌/◌, slice_get, slice_index_or}
 use Rattle.std.specs.List.{Contains}
-use Rattle.std.proofs.lemmas.Bool.{cases_eq}
+use Rattle.std.proofs.lemmas.Bool.{cases_eq, true≢false}
+use Rattle.std.proofs.lemmas.List.{take-append-drop}
 use Rattle.std.proofs.lemmas.Option.{slice_get_within, slice_get-get_or}
 use Rattle.std.proofs.lemmas.List.Elements.{Contains-append_left, Contains-append_right, Contains-append_cases}
 use Rattle.class_world.specs.declared.world.World.{World}
@@ -11,12 +12,12 @@ use Rattle.class_world.specs.Inheritance.{IsPrivateMethod}
 use Rattle.shared_maps.specs.declared.Map.{Map}
 use Rattle.member_methods.specs.declared.tables.Tables.{Tables}
 use Rattle.member_methods.specs.declared.own.Group.{Group}
-use Rattle.member_methods.specs.Tables.{listed, IsGood, IsMapOf}
+use Rattle.member_methods.specs.Tables.{listed, IsGood, Keeps, IsMapOf}
 use Rattle.member_methods.specs.Own.{IsInGroup, IsInFirst, AreSingle}
 use Rattle.member_methods.specs.Signed.{AreOwnNamed, IsReplaced}
-use Rattle.member_methods.specs.Made.{IsListedIn, Lists, IsWithGroup, IsWithFirst, IsWithAll, AreApart}
+use Rattle.member_methods.specs.Made.{HaveMaps, IsListedIn, Lists, IsWithGroup, IsWithFirst, IsWithAll, AreApart}
 use Rattle.member_methods.proofs.Maps.{keeps_both, map_says, map_there}
-use Rattle.member_methods.proofs.Firsts.{low_or_last, Among, among_none, among_last, among_more, among_cases, among_all, among_contains}
+use Rattle.member_methods.proofs.Firsts.{low_or_last}
 
 -- ---- the first groups
 
@@ -162,63 +163,72 @@ module _ (w : World) (groups : List Group) (members : ℕ → ℕ → Type 0) (s
 
 -- ---- what several types hand down
 
--- the first one and the first i of the others
-abbrev pub IsListedFirst : Tables → List Map → ℕ → List ℕ → ℕ → ℕ → ℕ → Type 0
-IsListedFirst t maps first others i k m = (s : ℕ) × ((s ≡ first) ⊎ Among others i s) × (map : Map) × (slice_get maps s ≡ Some map) × Contains (listed t map k) m
-
-pub listed_first : (t : Tables) (maps : List Map) (first : ℕ) (others : List ℕ) (map : Map) → slice_get maps first ≡ Some map → IsGood t map → IsMapOf t t map (IsListedFirst t maps first others 0)
-listed_first t maps first others map at good = map_there t map _ good (λ k m. (
-  λ x. (first, inl refl, map, at, x),
-  λ h. elim h.1 [
-    | inl same ↦
-        let is : h.2 ≡ map = let both : Some h.2 ≡ Some map = sym h.3 ∙ ap (slice_get maps) same ∙ at in cc both in
-        subst (λ x. Contains (listed t x k) m) is h.4
-    | inr never ↦ absurd (among_none others h.0 never)
-  ],
-))
-
-pub listed_next : (old now new : Tables) (maps : List Map) (first : ℕ) (others : List ℕ) (mid next more : Map) (i s : ℕ) → slice_get others i ≡ Some s → slice_get maps s ≡ Some more → IsGood old more
-    → IsMapOf old now mid (IsListedFirst old maps first others i) → IsMapOf now new next (λ k m. Contains (listed now mid k) m ⊎ Contains (listed now more k) m)
-    → IsMapOf old new next (IsListedFirst old maps first others (i + 1))
-listed_next old now new maps first others mid next more i s at at_s good so_far step = record {
-  good = step.good;
-  keeps = keeps_both old now new so_far.keeps step.keeps;
-  has = λ k m. (
-    λ x. elim ((step.has k m).0 x) [
-      | inl y ↦ let h = (so_far.has k m).0 y in (h.0, elim h.1 [ inl same ↦ inl same | inr early ↦ inr (among_more others i h.0 early) ], h.2, h.3, h.4)
-      | inr y ↦ (s, inr (among_last others i s at), more, at_s, subst (λ l. Contains l m) (so_far.keeps.same more good k) y)
-    ],
-    λ h. elim h.1 [
-      | inl same ↦ (step.has k m).1 (inl ((so_far.has k m).1 (h.0, inl same, h.2, h.3, h.4)))
-      | inr some ↦ elim (among_cases others i h.0 s at some) [
-        | inl early ↦ (step.has k m).1 (inl ((so_far.has k m).1 (h.0, inr early, h.2, h.3, h.4)))
-        | inr last ↦
-            let is : h.2 ≡ more = let both : Some h.2 ≡ Some more = sym h.3 ∙ ap (slice_get maps) last ∙ at_s in cc both in
-            (step.has k m).1 (inr (subst (λ l. Contains l m) (sym (so_far.keeps.same more good k)) (subst (λ x. Contains (listed old x k) m) is h.4)))
-      ]
-    ],
-  );
-}
-
-pub listed_all : (old new : Tables) (maps : List Map) (first : ℕ) (others above : List ℕ) (map : Map) (i : ℕ) → above ≡ first ∷ others → length others ≤ i
-    → IsMapOf old new map (IsListedFirst old maps first others i) → IsMapOf old new map (IsListedIn old maps above)
-listed_all old new maps first others above map i is full = map_says old new map _ _ (λ k m. (
-  λ h. (h.0, elim h.1 [ inl same ↦ subst (λ l. Contains l h.0) (sym is) (front (sym same)) | inr some ↦ subst (λ l. Contains l h.0) (sym is) (behind (among_contains others i h.0 some)) ], h.2, h.3, h.4),
-  λ h. (h.0, cases h.0 (subst (λ l. Contains l h.0) is h.1), h.2, h.3, h.4),
+-- one type alone
+pub listed_alone : (t : Tables) (maps : List Map) (s : ℕ) (above : List ℕ) (map : Map) → above ≡ s ∷ [] → slice_get maps s ≡ Some map → IsGood t map → IsMapOf t t map (IsListedIn t maps above)
+listed_alone t maps s above map is at good = map_there t map _ good (λ k m. (
+  λ h. (s, subst (λ l. Contains l s) (sym is) (0, omega arith, refl), map, at, h),
+  λ h.
+      let same : h.0 ≡ s = only h.0 (subst (λ l. Contains l h.0) is h.1) in
+      let one : h.2 ≡ map = let both : Some h.2 ≡ Some map = sym h.3 ∙ ap (slice_get maps) same ∙ at in cc both in
+      subst (λ x. Contains (listed t x k) m) one h.4,
 ))
   where
-    front : {s : ℕ} → first ≡ s → Contains (first ∷ others) s
-    front {s} same = (0, omega arith, same)
+    only : (x : ℕ) → Contains (s ∷ []) x → x ≡ s
+    only x (zero, lt, e) = sym e
+    only x (suc k, lt, e) = absurd (omega (arith, lt))
 
-    behind : {s : ℕ} → Contains others s → Contains (first ∷ others) s
-    behind {s} h = (h.0 + 1, (let lt = h.1 in omega (arith, lt)), tail s h.0 h.2)
-      where
-        tail : (s k : ℕ) → slice_index_or others k s ≡ s → slice_index_or (first ∷ others) (k + 1) s ≡ s
-        tail s k e = let one : k + 1 ≡ suc k = omega arith in ap (λ n. slice_index_or (first ∷ others) n s) one ∙ e
+pub halves : (above left right : List ℕ) (mid : ℕ) → left ≡ take mid above → right ≡ drop mid above → above ≡ left ++ right
+halves above left right mid front back = sym (ap (λ l. l ++ right) front ∙ ap (λ l. take mid above ++ l) back ∙ take-append-drop mid above)
 
-    cases : (s : ℕ) → Contains (first ∷ others) s → (s ≡ first) ⊎ Among others i s
-    cases s (zero, lt, e) = inl (sym e)
-    cases s (suc k, lt, e) = inr (among_all others i s full (k, (omega (arith, lt)), e))
+-- each half is shorter, where there are two types or more
+pub two_or_more : (first : ℕ) (others above : List ℕ) (empty : Bool) → above ≡ first ∷ others → empty ≡ (length others == 0) → empty ≡ false → 1 < length above
+two_or_more first [] above empty is same full = absurd (true≢false (sym same ∙ full))
+two_or_more first (x ∷ xs) above empty is same full = let size : length above ≡ suc (suc (length xs)) = ap length is in omega (arith, size)
+
+pub left_shorter : (n l : ℕ) → 1 < n → l ≡ n - n / 2 → l < n
+left_shorter n l two is = omega (arith, two, is)
+
+pub right_shorter : (n r mid : ℕ) → 1 < n → mid ≡ n - n / 2 → r + mid ≡ n → r < n
+right_shorter n r mid two is all = omega (arith, two, is, all)
+
+-- each half has its maps
+pub have_left : (t : Tables) (maps : List Map) (above left right : List ℕ) → above ≡ left ++ right → HaveMaps t maps above → HaveMaps t maps left
+have_left t maps above left right is have s h = have s (subst (λ l. Contains l s) (sym is) (Contains-append_left left right s h))
+
+pub have_right : (old now : Tables) (maps : List Map) (above left right : List ℕ) → above ≡ left ++ right → Keeps old now → HaveMaps old maps above → HaveMaps now maps right
+have_right old now maps above left right is keeps have s h =
+    let x = have s (subst (λ l. Contains l s) (sym is) (Contains-append_right left right s h)) in
+    (x.0, x.1, keeps.good x.0 x.2)
+
+-- both halves
+pub listed_halves : (old one two new : Tables) (maps : List Map) (above left right : List ℕ) (a b map : Map) → above ≡ left ++ right → HaveMaps old maps above
+    → IsMapOf old one a (IsListedIn old maps left) → IsMapOf one two b (IsListedIn one maps right) → IsMapOf two new map (λ k m. Contains (listed two a k) m ⊎ Contains (listed two b k) m)
+    → IsMapOf old new map (IsListedIn old maps above)
+listed_halves old one two new maps above left right a b map is have first second both = record {
+  good = both.good;
+  keeps = keeps_both old one new first.keeps (keeps_both one two new second.keeps both.keeps);
+  has = λ k m. (
+    λ x. elim ((both.has k m).0 x) [
+      | inl y ↦
+          let h = (first.has k m).0 (subst (λ l. Contains l m) (second.keeps.same a first.good k) y) in
+          (h.0, subst (λ l. Contains l h.0) (sym is) (Contains-append_left left right h.0 h.1), h.2, h.3, h.4)
+      | inr y ↦
+          let h = (second.has k m).0 y in
+          let up = subst (λ l. Contains l h.0) (sym is) (Contains-append_right left right h.0 h.1) in
+          (h.0, up, h.2, h.3, subst (λ l. Contains l m) (first.keeps.same h.2 (good h.0 up h.2 h.3) k) h.4)
+    ],
+    λ h. (both.has k m).1 (elim (Contains-append_cases left right h.0 (subst (λ l. Contains l h.0) is h.1)) [
+      | inl x ↦ inl (subst (λ l. Contains l m) (sym (second.keeps.same a first.good k)) ((first.has k m).1 (h.0, x, h.2, h.3, h.4)))
+      | inr x ↦ inr ((second.has k m).1 (h.0, x, h.2, h.3, subst (λ l. Contains l m) (sym (first.keeps.same h.2 (good h.0 h.1 h.2 h.3) k)) h.4))
+    ]),
+  );
+}
+  where
+    good : (s : ℕ) → Contains above s → (x : Map) → slice_get maps s ≡ Some x → IsGood old x
+    good s up x at =
+        let h = have s up in
+        let same : h.0 ≡ x = let both : Some h.0 ≡ Some x = sym h.1 ∙ at in cc both in
+        subst (IsGood old) same h.2
 
 -- ---- one group, as the code puts it
 
@@ -257,12 +267,6 @@ with_group_says w c g old map above own members all is_above is_own is_all kept 
 
 pub first_above : (first : ℕ) (others above : List ℕ) → above ≡ first ∷ others → Contains above first
 first_above first others above is = subst (λ l. Contains l first) (sym is) (0, omega arith, refl)
-
-pub other_above : (first s : ℕ) (others above : List ℕ) → above ≡ first ∷ others → Contains others s → Contains above s
-other_above first s others above is h = subst (λ l. Contains l s) (sym is) (behind s others h)
-  where
-    behind : (s : ℕ) (others : List ℕ) → Contains others s → Contains (first ∷ others) s
-    behind s others h = (h.0 + 1, (let lt = h.1 in omega (arith, lt)), let one : h.0 + 1 ≡ suc h.0 = omega arith in ap (λ n. slice_index_or (first ∷ others) n s) one ∙ h.2)
 
 pub map_read : (t : Tables) (maps : List Map) (s : ℕ) (d : Map) → (map : Map) × (slice_get maps s ≡ Some map) × IsGood t map → (slice_get maps s ≡ Some (slice_index_or maps s d)) × IsGood t (slice_index_or maps s d)
 map_read t maps s d h =

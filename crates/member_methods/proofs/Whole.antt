@@ -9,7 +9,7 @@ use Rattle.java_tree.specs.declared.tree.Name.{Name}
 use Rattle.class_world.specs.declared.world.World.{World}
 use Rattle.class_world.specs.declared.world.MethodInfo.{MethodInfo}
 use Rattle.class_world.specs.Sequences.{IsSequence}
-use Rattle.class_world.specs.Inheritance.{IsMemberMethod, declared, inherited, IsMethodNamed}
+use Rattle.class_world.specs.Inheritance.{IsDirectlyAbove, IsMemberMethod, declared, inherited}
 use Rattle.class_world.proofs.Substs.{there_is}
 use Rattle.shared_maps.specs.declared.Map.{Map}
 use Rattle.shared_maps.specs.Maps.{value_in}
@@ -20,9 +20,9 @@ use Rattle.member_methods.specs.Keys.{key_of, AreKeys}
 use Rattle.member_methods.specs.Lists.{list_at}
 use Rattle.member_methods.specs.Tables.{listed, IsGood}
 use Rattle.member_methods.specs.Own.{IsOwnerLimit}
-use Rattle.member_methods.specs.Made.{Has, IsKeyed, IsDone, IsReady, HasMap}
+use Rattle.member_methods.specs.Made.{CanInherit, Has, IsKeyed, IsDone, IsReady, HasMap}
 use Rattle.member_methods.specs.declared.MethodLists.{MethodLists}
-use Rattle.member_methods.specs.Methods.{AreNamed, AreMembers, HoldsMethods, listed_by}
+use Rattle.member_methods.specs.Methods.{AreNamed, AreInheritable, AreMembers, HoldsMethods, IsCalled, IsInheritable, listed_by}
 use Rattle.member_methods.proofs.Firsts.{Among, among_cases}
 
 -- ---- what is ready
@@ -73,17 +73,21 @@ below_next w keyed old new c done kept here d lt = elim (cases_lt d c) [
 
 -- ---- the answers
 
--- a number above all owners has no member
-no_member : (w : World) (limit c m : ℕ) → IsOwnerLimit w limit → limit ≤ c → IsMemberMethod w c m → ⊥
-no_member w limit c m lim past (declared d) = let lt = lim.owners m d.0 d.1.0 in let same = d.2 in omega (arith, lt, same, past)
-no_member w limit c m lim past (inherited (inl direct) member open' none) =
+-- nothing is above a number that is above those of all types
+none_above : (w : World) (limit c s : ℕ) → IsOwnerLimit w limit → limit ≤ c → IsDirectlyAbove w c s → ⊥
+none_above w limit c s lim past (inl direct) =
     let lt = slice_get_within w.types c direct.1.0 direct.1.1 in
     let types = lim.types in
     omega (arith, lt, types, past)
-no_member w limit c m lim past (inherited (inr object) member open' none) =
+none_above w limit c s lim past (inr object) =
     let lt = slice_get_within w.types c object.1.0 object.1.1 in
     let types = lim.types in
     omega (arith, lt, types, past)
+
+-- a number above all owners has no member
+no_member : (w : World) (limit c m : ℕ) → IsOwnerLimit w limit → limit ≤ c → IsMemberMethod w c m → ⊥
+no_member w limit c m lim past (declared d) = let lt = lim.owners m d.0 d.1.0 in let same = d.2 in omega (arith, lt, same, past)
+no_member w limit c m lim past (inherited {s = s} up member open' none) = none_above w limit c s lim past up
 
 empty_increases : IsStrictlyIncreasing []
 empty_increases k lt = absurd (omega (arith, lt))
@@ -101,6 +105,10 @@ listed_ascends t map k good = go (value_in t.maps map k) refl
         let list = good.lists k n e in
         subst IsStrictlyIncreasing (sym (ap (λ o. unwrap_or o []) list.1)) list.2
 
+-- of the methods of which P holds those with this name and number of parameters, ascending
+abbrev AreCalled : World → Name → ℕ → (ℕ → Type 0) → List ℕ → Type 0
+AreCalled w n arity P ms = ((m : ℕ) → Contains ms m ↔ (P m × IsCalled w n arity m)) × IsStrictlyIncreasing ms
+
 module _ (w : World) (find : Key → Option ℕ) (keyed : List ℕ) (keys : AreKeys w find keyed) (c : ℕ) (n : Name) (arity : ℕ) where
   asked : Key
   asked = record { name = n.0; arity = arity }
@@ -109,39 +117,41 @@ module _ (w : World) (find : Key → Option ℕ) (keyed : List ℕ) (keys : AreK
   unfolding asked
   key_asked info name count = ap (λ (x : Name). (λ (r : Key). r) (record { name = x.0; arity = length info.params })) name ∙ ap (λ x. (λ (r : Key). r) (record { name = n.0; arity = x })) count
 
-  named_has : (k m : ℕ) → find asked ≡ Some k → Has w keyed c k m ↔ IsMethodNamed w c n arity m
+  keyed_called : (k m : ℕ) → find asked ≡ Some k → IsKeyed w keyed k m ↔ IsCalled w n arity m
   unfolding asked
-  named_has k m found = (
+  keyed_called k m found = (
     λ h.
-        let info = h.0.0.0 in
-        let key = keys.found m info h.0.0.1.0 in
-        let same : key.0 ≡ k = let both : Some key.0 ≡ Some k = sym key.2 ∙ h.0.1 in cc both in
+        let info = h.0.0 in
+        let key = keys.found m info h.0.1.0 in
+        let same : key.0 ≡ k = let both : Some key.0 ≡ Some k = sym key.2 ∙ h.1 in cc both in
         let one = keys.only (key_of info) k (key.1 ∙ ap Some same) in
         let two = keys.only asked k found in
         let infos : one.0 ≡ two.0 = cc (one.1, two.1) in
         let is : key_of info ≡ asked = sym one.2 ∙ ap key_of infos ∙ two.2 in
-        (h.1, (info, h.0.0.1, ap (λ (x : Key). (λ (r : Name). r) (record { 0 = x.name })) is, ap (λ (x : Key). x.arity) is)),
+        (info, h.0.1, ap (λ (x : Key). (λ (r : Name). r) (record { 0 = x.name })) is, ap (λ (x : Key). x.arity) is),
     λ h.
-        let info = h.1.0 in
-        let key = keys.found m info h.1.1.0 in
-        let same : key.0 ≡ k = let both : Some key.0 ≡ Some k = sym key.1 ∙ ap find (key_asked info h.1.2 h.1.3) ∙ found in cc both in
-        (((info, h.1.1), key.2 ∙ ap Some same), h.0),
+        let info = h.0 in
+        let key = keys.found m info h.1.0 in
+        let same : key.0 ≡ k = let both : Some key.0 ≡ Some k = sym key.1 ∙ ap find (key_asked info h.2 h.3) ∙ found in cc both in
+        ((info, h.1), key.2 ∙ ap Some same),
   )
 
-  not_named : (m : ℕ) → find asked ≡ None → IsMethodNamed w c n arity m → ⊥
-  not_named m none h =
-      let info = h.1.0 in
-      let key = keys.found m info h.1.1.0 in
-      let never : Some key.0 ≡ None = sym key.1 ∙ ap find (key_asked info h.1.2 h.1.3) ∙ none in
+  not_called : (m : ℕ) → find asked ≡ None → IsCalled w n arity m → ⊥
+  not_called m none h =
+      let info = h.0 in
+      let key = keys.found m info h.1.0 in
+      let never : Some key.0 ≡ None = sym key.1 ∙ ap find (key_asked info h.2 h.3) ∙ none in
       cc never
 
-  pub all_named : (t : Tables) (maps : List Map) → IsOwnerLimit w (length maps) → ((d : ℕ) → d < length maps → HasMap t maps d (Has w keyed d)) → AreNamed w c n arity (listed_by t (slice_get maps c) (find (record { name = n.0; arity = arity })))
+  -- of the methods of which P says that the type c has them, those that are called so
+  pub all_called : (t : Tables) (maps : List Map) (P : ℕ → ℕ → Type 0) → ((m : ℕ) → length maps ≤ c → P c m → ⊥) → ((d : ℕ) → d < length maps → HasMap t maps d (λ k m. IsKeyed w keyed k m × P d m))
+      → AreCalled w n arity (P c) (listed_by t (slice_get maps c) (find (record { name = n.0; arity = arity })))
   unfolding asked
-  all_named t maps limit each = at_map (slice_get maps c) refl (find asked) refl
+  all_called t maps P none_past each = at_map (slice_get maps c) refl (find asked) refl
     where
-      at_map : (o : Option Map) → slice_get maps c ≡ o → (f : Option ℕ) → find asked ≡ f → AreNamed w c n arity (listed_by t o f)
+      at_map : (o : Option Map) → slice_get maps c ≡ o → (f : Option ℕ) → find asked ≡ f → AreCalled w n arity (P c) (listed_by t o f)
       at_map None none f is = (
-        λ m. (λ h. absurd (none_in m h), λ h. absurd (no_member w (length maps) c m limit (past none) h.0)),
+        λ m. (λ h. absurd (none_in m h), λ h. absurd (none_past m (past none) h.0)),
         empty_increases,
       )
         where
@@ -150,14 +160,26 @@ module _ (w : World) (find : Key → Option ℕ) (keyed : List ℕ) (keys : AreK
             | inl lt ↦ let x = there_is maps c lt in let never : None ≡ Some x.0 = sym e ∙ x.1 in absurd (cc never)
             | inr ge ↦ ge
           ]
-      at_map (Some map) at None is = (λ m. (λ h. absurd (none_in m h), λ h. absurd (not_named m is h)), empty_increases)
+      at_map (Some map) at None is = (λ m. (λ h. absurd (none_in m h), λ h. absurd (not_called m is h.1)), empty_increases)
       at_map (Some map) at (Some k) is =
           let has = each c (slice_get_within maps c map at) in
           let same : has.map ≡ map = let both : Some has.map ≡ Some map = sym has.at ∙ at in cc both in
-          subst (λ x. AreNamed w c n arity (listed t x k)) same (
-            λ m. let says = named_has k m is in (λ h. says.0 ((has.has k m).0 h), λ h. (has.has k m).1 (says.1 h)),
+          subst (λ x. AreCalled w n arity (P c) (listed t x k)) same (
+            λ m. let says = keyed_called k m is in (
+              λ h. let x = (has.has k m).0 h in (x.1, says.0 x.0),
+              λ h. (has.has k m).1 (says.1 h.1, h.0),
+            ),
             listed_ascends t has.map k has.good,
           )
+
+pub all_named : (w : World) (find : Key → Option ℕ) (keyed : List ℕ) → AreKeys w find keyed → (c : ℕ) (n : Name) (arity : ℕ) (t : Tables) (maps : List Map) → IsOwnerLimit w (length maps)
+    → ((d : ℕ) → d < length maps → HasMap t maps d (Has w keyed d)) → AreNamed w c n arity (listed_by t (slice_get maps c) (find (record { name = n.0; arity = arity })))
+all_named w find keyed keys c n arity t maps limit each = all_called w find keyed keys c n arity t maps (IsMemberMethod w) (λ m past h. no_member w (length maps) c m limit past h) each
+
+pub all_inheritable : (w : World) (find : Key → Option ℕ) (keyed : List ℕ) → AreKeys w find keyed → (c : ℕ) (n : Name) (arity : ℕ) (t : Tables) (maps : List Map) → IsOwnerLimit w (length maps)
+    → ((d : ℕ) → d < length maps → HasMap t maps d (CanInherit w keyed d)) → AreInheritable w c n arity (listed_by t (slice_get maps c) (find (record { name = n.0; arity = arity })))
+all_inheritable w find keyed keys c n arity t maps limit each =
+    all_called w find keyed keys c n arity t maps (IsInheritable w) (λ m past h. none_above w (length maps) c h.0.0 limit past h.0.1) each
 
 -- ---- all members of a type
 

@@ -3,5 +3,6 @@ pub mod Lists
 pub mod Tables
 pub mod Own
 pub mod Signed
-pub mod Made
+pub mod SignatureSets
 pub mod Methods
+pub mod Made

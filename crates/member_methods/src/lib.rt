@@ -1,20 +1,20 @@
 //! The member methods of each type, by name and number of parameters (JLS 3rd edition, 8.4.8, 9.2 and 9.4.1).
 #![tactic(auto)]
 
-ghost use Rattle.std.specs.Prelude.{ℕ, IfOk};
+ghost use Rattle.std.specs.Prelude.{◌≡◌, IfOk};
 ghost use Rattle.class_world.specs.declared.world.World as worlds;
 ghost use Rattle.class_world.specs.Sound.{IsSound};
-ghost use Rattle.member_methods.specs.Methods.{AreMembers, AreNamed, HoldsMethods};
+ghost use Rattle.member_methods.specs.Methods.{AreInheritable, AreMembers, AreNamed, HoldsMethods};
+ghost use Rattle.member_methods.specs.Methods as spec;
 
 mod above;
 mod keys;
 mod lists;
 mod made;
 mod own;
+mod signature_set;
 mod signatures;
 mod tables;
-#[cfg(test)]
-mod tests;
 
 use class_world::World;
 use java_tree::NoMemory;
@@ -26,16 +26,19 @@ use std::alloc::Global;
 use std::collections::HashMap;
 use tables::Tables;
 
-/// The member methods of all types, by type, name and number of parameters.
+/// The member methods of all types, by type, name and number of parameters; and what the types directly above each hand down to it.
 #[derive(Drop)]
 pub struct MethodLists {
     keys: HashMap<Key, u32>,
     tables: Tables,
     members: Vec<Map>,
+    inheritable: Vec<Map>,
 }
 
 impl MethodLists {
-    /// The member methods of all types of a sound world. Takes time for the types, their methods, and what each type has from others than the first one directly above it, each times the bits of a method's number; and for each own method the time of comparing it with each method from above of its name and number of parameters.
+    /// The member methods of all types of a sound world.
+    ///
+    /// Takes time for the types, their methods with the parts of their parameter types, and what each type has from others than the first one directly above it, with what the first one has of the same names and numbers of parameters, as often as the number of the types directly above can be halved; all times the bits of a method's number. Where a type declares methods of a name and number of parameters, each that it has of them from above takes the time of finding the arguments of the type that declares it, and of its parameter types.
     pub fn of(alloc: Global, w: &World) -> Result<MethodLists, NoMemory>
         requires { IsSound w.now }
         ensures { IfOk result (λ t. HoldsMethods w.now t) }
@@ -46,12 +49,27 @@ impl MethodLists {
             keys,
             tables: made.tables,
             members: made.members,
+            inheritable: made.inheritable,
         })
     }
 
     /// The numbers of the member methods of the type `owner` with this name and so many parameters, ascending; those that count as one too. Constructors are no members. Takes no memory.
     pub fn named(&self, owner: u32, name: Name, arity: usize) -> &[u32]
         ensures { (w : worlds.World) → HoldsMethods w self.now → AreNamed w owner name arity result.now }
+    {
+        self.listed(self.members.as_slice(), owner, name, arity)
+    }
+
+    /// The numbers of the methods with this name and so many parameters that the type `owner` inherits unless one of its own takes their place: the members of the types directly above it that are not private, ascending. Takes no memory.
+    pub fn inheritable(&self, owner: u32, name: Name, arity: usize) -> &[u32]
+        ensures { (w : worlds.World) → HoldsMethods w self.now → AreInheritable w owner name arity result.now }
+    {
+        self.listed(self.inheritable.as_slice(), owner, name, arity)
+    }
+
+    /// What one of the maps lists for a name and a number of parameters; nothing where there is no such map.
+    fn listed(&self, maps: &[Map], owner: u32, name: Name, arity: usize) -> &[u32]
+        ensures { result.now ≡ spec.listed_in self.now maps.now owner name arity }
     {
         let Some(key) = self.keys.get(&Key {
             name: name.0,
@@ -60,7 +78,7 @@ impl MethodLists {
         else {
             return &[];
         };
-        match self.members.get(owner as usize) {
+        match maps.get(owner as usize) {
             Some(map) => self.tables.listed(*map, *key),
             None => &[],
         }

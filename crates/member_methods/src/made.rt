@@ -1,6 +1,7 @@
 //! The maps of all types, made from those of the types above them.
 
-ghost use Rattle.std.specs.Prelude.{◌≡◌, ◌<◌, ◌^◌, ℕ, List, Some, IfOk, OnOk, length, slice_get};
+ghost use Rattle.std.specs.Prelude.{◌≡◌, ◌<◌, ◌^◌, ◌⊎◌, ℕ, List, Some, IfOk, OnOk, length, slice_get};
+ghost use Rattle.std.specs.List.{Contains};
 ghost use Rattle.class_world.specs.declared.world.World as worlds;
 ghost use Rattle.class_world.specs.Inheritance.{IsPrivateMethod};
 ghost use Rattle.class_world.specs.Sound.{IsSound};
@@ -21,11 +22,12 @@ use java_tree::{Items, NoMemory};
 use shared_maps::Map;
 use std::alloc::Global;
 
-/// The types' maps, by number: the list that `members` has for a key is that of its member methods, and the one that `handed` has is that of those that are not private.
+/// The types' maps, by number: the list that `members` has for a key is that of its member methods, the one that `handed` has is that of those that are not private, and the one that `inheritable` has is that of what the types directly above it hand down.
 #[derive(Drop)]
 pub(crate) struct Made {
     pub(crate) tables: Tables,
     pub(crate) members: Vec<Map>,
+    pub(crate) inheritable: Vec<Map>,
     handed: Vec<Map>,
 }
 
@@ -63,6 +65,7 @@ fn nothing_made(alloc: Global, keys: u32, limit: usize) -> Result<Made, NoMemory
     Ok(Made {
         tables,
         members: vec![in alloc; empty; limit]?,
+        inheritable: vec![in alloc; empty; limit]?,
         handed: vec![in alloc; empty; limit]?,
     })
 }
@@ -98,12 +101,15 @@ impl Made {
         let members = members_of(alloc, &mut self.tables, w, c, groups.as_slice(), inherited)?;
         let handed = handed_down(alloc, &mut self.tables, w, groups.as_slice(), members)?;
         self.members[c as usize] = members;
+        self.inheritable[c as usize] = inheritable(above.as_slice(), c, inherited, handed);
         self.handed[c as usize] = handed;
         Ok(())
     }
 }
 
-/// What the types directly above a type hand down to it, together.
+/// What some of the types directly above a type hand down to it, together.
+///
+/// They are halved, so that a list is joined to others as often as their number can be halved. The first type's map, often by far the largest, is only added to.
 fn inherited(
     alloc: Global,
     tables: &mut Tables,
@@ -116,11 +122,24 @@ fn inherited(
     let Some((first, others)) = above.split_first() else {
         return Ok(tables.empty());
     };
-    let mut map = handed[*first as usize];
-    for s in others {
-        map = tables.joined(alloc, map, handed[*s as usize])?;
+    if others.is_empty() {
+        return Ok(handed[*first as usize]);
     }
-    Ok(map)
+    let (left, right) = above.split_at(above.len() - above.len() / 2);
+    let map = inherited(alloc, tables, handed, left)?;
+    let more = inherited(alloc, tables, handed, right)?;
+    tables.joined(alloc, map, more)
+}
+
+/// What the types directly above a type hand down to it. `inherited` lacks what it hands down itself: it is above itself where it is Object, and that an interface.
+fn inheritable(above: &[u32], c: u32, inherited: Map, handed: Map) -> Map
+    ensures { ((result ≡ handed) × Contains above.now c) ⊎ ((result ≡ inherited) × (Contains above.now c → ⊥)) }
+{
+    if above.contains(&c) {
+        handed
+    } else {
+        inherited
+    }
 }
 
 /// What a type inherits with its own methods, which take out those of their signatures.

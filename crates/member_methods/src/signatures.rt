@@ -7,11 +7,18 @@ ghost use Rattle.class_world.specs.declared.world.JavaType as types;
 ghost use Rattle.class_world.specs.declared.world.JavaType.TheVariants as ty;
 ghost use Rattle.class_world.specs.Types.{substitute};
 ghost use Rattle.class_world.specs.Sound.{IsSound};
+ghost use Rattle.seen_methods.specs.Seen.{TellsParams};
 ghost use Rattle.member_methods.specs.Signed.{AreOwnNamed, AreSeen, HasCount, HasParams, IsOwnType, IsReplaced};
+ghost use Rattle.member_methods.specs.SignatureSets.{HasSignaturesOf};
 
+use crate::signature_set::SignatureSet;
 use class_world::{JavaType, World, is_put, super_as};
 use java_tree::{Items, NoMemory};
+use seen_methods::seen_params;
 use std::alloc::Global;
+
+/// So many methods of one name and number of parameters are compared with each; of more a set is made.
+const FEW: usize = 4;
 
 /// A type with its own variables as arguments; `None` for a number of no type.
 pub(crate) fn own_type(alloc: Global, w: &World, c: u32) -> Result<Option<JavaType>, NoMemory>
@@ -125,9 +132,99 @@ fn is_replaced(
     }
 }
 
+/// The parameter types of a method as the type `own` sees them; `None` where it does not see it.
+fn params_in(
+    alloc: Global,
+    w: &World,
+    own: &Option<JavaType>,
+    m: u32,
+) -> Result<Option<Items<JavaType>>, NoMemory>
+    requires { IsSound w.now }
+    ensures { IfOk result (λ o. (c : ℕ) → IsOwnType w.now c own.now → TellsParams w.now c m o) }
+{
+    match own {
+        Some(JavaType::Class(c, _)) => seen_params(alloc, w, *c, m),
+        _ => Ok(None),
+    }
+}
+
+/// Whether the set of the signatures of the type's own methods has that of a method of a type above it.
+fn is_in_set(
+    alloc: Global,
+    w: &World,
+    own: &Option<JavaType>,
+    set: &SignatureSet,
+    m: u32,
+) -> Result<bool, NoMemory>
+    requires { IsSound w.now }
+    ensures { IfOk result (λ r. (c : ℕ) (methods : List ℕ) → IsOwnType w.now c own.now → HasSignaturesOf w.now methods set.now → AreOwnNamed w.now c methods m → IsTrue r ↔ IsReplaced w.now c methods m) }
+{
+    let Some(info) = w.methods.get(m as usize) else {
+        return Ok(false);
+    };
+    let Some(params) = params_in(alloc, w, own, m)? else {
+        return Ok(false);
+    };
+    Ok(set.has(info.name, params.as_slice()))
+}
+
+/// The signatures of more than a few methods.
+fn set_of_many(alloc: Global, w: &World, methods: &[u32]) -> Result<Option<SignatureSet>, NoMemory>
+    ensures { IfOk result (λ o. IfSome o (HasSignaturesOf w.now methods.now)) }
+{
+    if methods.len() <= FEW {
+        return Ok(None);
+    }
+    let set = SignatureSet::of(alloc, w, methods)?;
+    Ok(Some(set))
+}
+
+/// The same as `is_replaced`, by the set of the own methods' signatures where there is one.
+fn is_taken_out(
+    alloc: Global,
+    w: &World,
+    own: &Option<JavaType>,
+    methods: &[u32],
+    set: &Option<SignatureSet>,
+    m: u32,
+) -> Result<bool, NoMemory>
+    requires sound { IsSound w.now }
+    requires own { (c : ℕ) × IsOwnType w.now c own.now }
+    requires set { IfSome set.now (HasSignaturesOf w.now methods.now) }
+    ensures { IfOk result (λ r. (c : ℕ) → IsOwnType w.now c own.now → AreOwnNamed w.now c methods.now m → IsTrue r ↔ IsReplaced w.now c methods.now m) }
+{
+    match set {
+        Some(set) => is_in_set(alloc, w, own, set, m),
+        None => is_replaced(alloc, w, own, methods, m),
+    }
+}
+
+/// The same as `kept`, with the set of the own methods' signatures if there is one.
+fn kept_by(
+    alloc: Global,
+    w: &World,
+    own: &Option<JavaType>,
+    methods: &[u32],
+    set: &Option<SignatureSet>,
+    above: &[u32],
+) -> Result<Vec<u32>, NoMemory>
+    requires sound { IsSound w.now }
+    requires own { (c : ℕ) × IsOwnType w.now c own.now }
+    requires set { IfSome set.now (HasSignaturesOf w.now methods.now) }
+    ensures { IfOk result (λ v. (c : ℕ) → IsOwnType w.now c own.now → ((m : ℕ) → Contains above.now m → AreOwnNamed w.now c methods.now m) → (m : ℕ) → Contains v.items m ↔ (Contains above.now m × (IsReplaced w.now c methods.now m → ⊥))) }
+{
+    let mut kept = Vec::new(alloc);
+    for m in above {
+        if !is_taken_out(alloc, w, own, methods, set, *m)? {
+            kept.push(*m)?;
+        }
+    }
+    Ok(kept)
+}
+
 /// The methods of types above a type whose signature none of its own methods has. All have one name and one number of parameters.
 ///
-/// Compares each with each, so that it grows with the product of the two numbers; a table of the signatures would grow with their sum.
+/// Takes time for the parts of the parameter types of both, and for each method from above what it takes to find the arguments of its type; not for their pairs.
 pub(crate) fn kept(
     alloc: Global,
     w: &World,
@@ -139,11 +236,6 @@ pub(crate) fn kept(
     requires own { (c : ℕ) × IsOwnType w.now c own.now }
     ensures { IfOk result (λ v. (c : ℕ) → IsOwnType w.now c own.now → ((m : ℕ) → Contains above.now m → AreOwnNamed w.now c methods.now m) → (m : ℕ) → Contains v.items m ↔ (Contains above.now m × (IsReplaced w.now c methods.now m → ⊥))) }
 {
-    let mut kept = Vec::new(alloc);
-    for m in above {
-        if !is_replaced(alloc, w, own, methods, *m)? {
-            kept.push(*m)?;
-        }
-    }
-    Ok(kept)
+    let set = set_of_many(alloc, w, methods)?;
+    kept_by(alloc, w, own, methods, &set, above)
 }

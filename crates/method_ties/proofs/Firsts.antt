@@ -1,6 +1,6 @@
 -- What a loop gathers from the first elements of a list.
 use Rattle.std.proofs.Common.{◌≡◌, ℕ, ◌+◌, ◌<◌, ◌≤◌, zero, suc, List, [], ◌∷◌, ◌++◌, Option, Some, None, Result, Ok, Err, ◌⊎◌, inl, inr, ◌↔◌, refl, sym, ap, ◌∙◌, subst, length, arith, nat_cmp}
-use Rattle.std.specs.Prelude.{slice_get, slice_index_or as get_or, unwrap_or, IsTrue, MatchResult}
+use Rattle.std.specs.Prelude.{slice_get, slice_index_or as get_or, unwrap_or, IsTrue, IfOk, OnOk, MatchResult}
 use Rattle.std.specs.List.{Contains}
 use Rattle.std.specs.List.Sorted.{IsStrictlyIncreasing, IsBinarySearchResult}
 use Rattle.std.specs.Result.{is_ok}
@@ -97,6 +97,13 @@ gathers_alone P xs out i full all y = (
   λ h. (gathers_all P [] xs out i full all y).1 (inr h),
 )
 
+-- those of which P holds
+pub gathers_kept : (P : ℕ → Type 0) (xs out : List ℕ) (i : ℕ) → length xs ≤ i → Gathers (λ x y. (y ≡ x) × P x) [] xs out i → (y : ℕ) → Contains out y ↔ (Contains xs y × P y)
+gathers_kept P xs out i full all y = (
+  λ h. let k = (gathers_alone (λ x y. (y ≡ x) × P x) xs out i full all y).0 h in (subst (Contains xs) (sym k.2.0) k.1, subst P (sym k.2.0) k.2.1),
+  λ h. (gathers_alone (λ x y. (y ≡ x) × P x) xs out i full all y).1 (y, h.0, (refl, h.1)),
+)
+
 -- ascending numbers
 
 pub increasing_new : (xs : List ℕ) (i x : ℕ) → IsStrictlyIncreasing xs → slice_get xs i ≡ Some x → Among xs i x → ⊥
@@ -164,6 +171,28 @@ once_push xs new x once fresh made i j y at there =
       ]
     ]
 
+pub once_new : {A : Type 0} (xs : List A) (i : ℕ) (x : A) → IsOnce xs → slice_get xs i ≡ Some x → Among xs i x → ⊥
+once_new xs i x once at h = let same : h.0 ≡ i = once h.0 i x h.2 at in let lt = h.1 in absurd (omega (arith, lt, same))
+
+pub once_rising : (xs : List ℕ) → IsStrictlyIncreasing xs → IsOnce xs
+once_rising xs rises i j x at there = elim (three i j) [
+  | inl low ↦ absurd (increasing_new xs j x rises there (i, low, at))
+  | inr other ↦ elim other [ inl same ↦ same | inr high ↦ absurd (increasing_new xs i x rises at (j, high, there)) ]
+]
+  where
+    three : (i j : ℕ) → (i < j) ⊎ ((i ≡ j) ⊎ (j < i))
+    three i j = grind arith
+
+-- one of the first i and one
+pub among_next : {A : Type 0} (xs : List A) (i : ℕ) (x y : A) → slice_get xs i ≡ Some y → Among xs (i + 1) x ↔ (Among xs i x ⊎ (x ≡ y))
+among_next xs i x y at = (
+  λ h. among_cases xs i x y at h,
+  λ h. elim h [ inl low ↦ among_more xs i x low | inr same ↦ subst (Among xs (i + 1)) (sym same) (i, (omega arith), at) ],
+)
+
+pub among_full : {A : Type 0} (xs : List A) (i : ℕ) (x : A) → length xs ≤ i → Among xs i x ↔ Contains xs x
+among_full xs i x full = (λ h. at_contains xs h.0 x h.2, λ h. among_all xs i x full h)
+
 -- the element at a place, or what stands for none
 pub all_get : {A : Type 0} (P : ℕ → A → Type 0) (xs : List A) (n : ℕ) (d : A) → AreAll P xs n → ((i : ℕ) → n ≤ i → P i d) → (i : ℕ) → P i (unwrap_or (slice_get xs i) d)
 all_get P xs n d all past i = go (slice_get xs i) refl
@@ -183,3 +212,12 @@ all_push P xs new n x all holds made = (
     | inr last ↦ subst (P i) (sym last.1) (subst (λ k. P k x) (sym (last.0 ∙ all.0)) holds)
   ],
 )
+
+-- more that follows where there is an answer
+pub on_ok : {A B : Type 0} {P Q : Type 0} (r : Result A B) → (P → Q) → OnOk r P → OnOk r Q
+on_ok (Ok x) f p = f p
+on_ok (Err e) f p = tt
+
+pub if_ok : {A E : Type 0} (r : Result A E) (P Q : A → Type 0) → ((x : A) → P x → Q x) → IfOk r P → IfOk r Q
+if_ok (Ok x) P Q f h = f x h
+if_ok (Err e) P Q f h = h

@@ -1,9 +1,8 @@
 -- Members, and what a class has from the types directly above it.
-use Rattle.std.proofs.Common.{◌≡◌, ℕ, false, true, List, [], ◌∷◌, ◌++◌, Some, inl, inr, ◌↔◌, map, refl, sym, ap, ◌∙◌, subst, length, arith}
+use Rattle.std.proofs.Common.{◌≡◌, ℕ, List, [], Some, inl, inr, ◌↔◌, map, refl, sym, ap, ◌∙◌, subst, length, arith}
 use Rattle.std.specs.Prelude.{slice_get}
 use Rattle.std.specs.List.{Contains}
 use Rattle.std.specs.List.Sorted.{IsStrictlyIncreasing}
-use Rattle.std.proofs.lemmas.List.Elements.{Contains-push, Contains-push_cases}
 use Rattle.class_world.specs.declared.world.World.{World}
 use Rattle.class_world.specs.declared.world.TypeInfo.{TypeInfo}
 use Rattle.class_world.specs.declared.world.MethodInfo.{MethodInfo}
@@ -11,14 +10,14 @@ use Rattle.class_world.specs.declared.world.JavaType.{JavaType}
 use Rattle.class_world.specs.declared.world.JavaType.TheVariants as ty
 use Rattle.class_world.specs.Types.{substitute, variables}
 use Rattle.class_world.specs.Subtypes.{same}
-use Rattle.class_world.specs.Subclasses.{IsDirectSuper}
 use Rattle.class_world.specs.Signatures.{IsMethod, IsSeenWith, HasParams, HaveOneSignatureIn}
 use Rattle.class_world.specs.Access.{IsInterface}
 use Rattle.class_world.specs.Inheritance.{DeclaresMethod, Inherits, IsDirectlyAbove, IsMemberMethod, declared, inherited, IsMethodNamed}
 use Rattle.class_world.specs.Overriding.{IsClass, IsSuperinterface, MeetIn, Replaces}
 use Rattle.class_world.proofs.Substs.{length_map, variables_length}
+use Rattle.member_methods.specs.Methods.{IsCalled, IsInheritable}
 use Rattle.method_ties.specs.declared.Meeting.{Meeting}
-use Rattle.method_ties.specs.Sides.{Suits, IsClassUnder, IsInherited, IsLower, Meets}
+use Rattle.method_ties.specs.Sides.{AreSuperclasses, IsInherited, IsLower, IsSupertype, Meets}
 use Rattle.method_ties.specs.Ties.{AreMeetings, AreReplaced}
 use Rattle.method_ties.proofs.Firsts.{none_in, at_contains, contains_at}
 
@@ -79,28 +78,25 @@ module _ (w : World) where
 
   -- ---- the methods whose place m takes
 
-  pub replaced_told : (m : ℕ) (info : MethodInfo) (above ks : List ℕ) → IsMethod w m info → ((s : ℕ) → Contains above s ↔ IsDirectlyAbove w info.owner s)
-      → ((k : ℕ) → Contains ks k ↔ ((s : ℕ) × Contains above s × (IsMethodNamed w s info.name (length info.params) k × Suits w info.owner m k))) → IsStrictlyIncreasing ks → AreReplaced w m ks
-  replaced_told m info above ks is ups has rises = (
+  pub replaced_told : (m : ℕ) (info : MethodInfo) (ks : List ℕ) → IsMethod w m info
+      → ((k : ℕ) → Contains ks k ↔ ((IsInheritable w info.owner k × IsCalled w info.name (length info.params) k) × HaveOneSignatureIn w info.owner m k)) → IsStrictlyIncreasing ks → AreReplaced w m ks
+  replaced_told m info ks is has rises = (
     λ k. (
-      λ h.
-          let from = (has k).0 h in
-          (info.owner, ((info, is, refl), (from.0, (ups from.0).0 from.1, from.2.0.0), from.2.1.0, from.2.1.1)),
+      λ h. let from = (has k).0 h in (info.owner, ((info, is, refl), from.0.0.0, from.0.0.1, from.1)),
       λ h. (has k).1 (back k h),
     ),
     rises,
   )
     where
-      back : (k : ℕ) → (c : ℕ) × Replaces w c m k → (s : ℕ) × Contains above s × (IsMethodNamed w s info.name (length info.params) k × Suits w info.owner m k)
+      back : (k : ℕ) → (c : ℕ) × Replaces w c m k → (IsInheritable w info.owner k × IsCalled w info.name (length info.params) k) × HaveOneSignatureIn w info.owner m k
       back k h =
           let r = h.1 in
           let alike : r.0.0 ≡ info = one_method m r.0.0 info r.0.1 is in
           let owner : h.0 ≡ info.owner = sym r.0.2 ∙ ap (λ (x : MethodInfo). x.owner) alike in
-          let member = r.1.2 in
-          let kinfo = member_is_method r.1.0 k member in
+          let kinfo = member_is_method r.1.0 k r.1.2 in
           let one = subst (λ c. HaveOneSignatureIn w c m k) owner r.3 in
           let shape = one_shape info.owner m k info kinfo.0 one is kinfo.1 in
-          (r.1.0, (ups r.1.0).1 (subst (λ c. IsDirectlyAbove w c r.1.0) owner r.1.1), ((member, (kinfo.0, kinfo.1, sym shape.0, sym shape.1)), (r.2, one)))
+          (((subst (λ c. (s : ℕ) × IsDirectlyAbove w c s × IsMemberMethod w s k) owner r.1, r.2), (kinfo.0, kinfo.1, sym shape.0, sym shape.1)), one)
 
   -- a number of no method takes no place
   pub none_replaced : (m : ℕ) (ks : List ℕ) → ks ≡ [] → ((info : MethodInfo) → IsMethod w m info → ⊥) → AreReplaced w m ks
@@ -111,33 +107,30 @@ module _ (w : World) where
 
   -- ---- what meets
 
-  direct_of_class : (c s : ℕ) → IsClass w c → IsDirectlyAbove w c s → (args : List JavaType) × IsDirectSuper w c (ty.Class s args)
-  direct_of_class c s class (inl direct) = direct
-  direct_of_class c s class (inr top) =
-      let is = top.1 in
-      let alike : is.0 ≡ class.0 = cc (is.1, class.1) in
-      let never : true ≡ false = sym is.2 ∙ ap (λ (x : TypeInfo). x.interface) alike ∙ class.2 in
-      absurd (cc never)
+  pub superclasses_are : (c : ℕ) (types supers : List ℕ) → IsClass w c → ((s : ℕ) → Contains types s ↔ IsSupertype w c s) → ((s : ℕ) → Contains supers s ↔ (Contains types s × IsClass w s))
+      → AreSuperclasses w c supers
+  superclasses_are c types supers class all some s = (
+    λ h. let t = (some s).0 h in (class, (all s).0 t.0, t.1),
+    λ h. (some s).1 ((all s).1 h.1, h.2),
+  )
 
-  pub lower_told : (c m : ℕ) (above : List ℕ) → IsClassUnder w c above → IsInherited w c m → (o : ℕ) × DeclaresMethod w o m × IsClass w o
-      → (s : ℕ) × Contains above s × IsClass w s × IsMemberMethod w s m → IsLower w c m
-  lower_told c m above under inh own h =
-      let up = (under.right h.0).0 h.1 in
-      ((h.0, (under.class, direct_of_class c h.0 under.class up, h.2), from_each c h.0 m inh up h.3), own)
+  pub lower_told : (c m : ℕ) (supers : List ℕ) → AreSuperclasses w c supers → IsInherited w c m → (o : ℕ) × DeclaresMethod w o m × IsClass w o → (s : ℕ) × Contains supers s × IsMemberMethod w s m
+      → IsLower w c m
+  lower_told c m supers are inh own h = let up = (are h.0).0 h.1 in ((h.0, up, from_each c h.0 m inh (inl up.1) h.2), own)
 
-  pub lower_parts : (c m : ℕ) (above : List ℕ) → IsClassUnder w c above → IsLower w c m → IsInherited w c m × ((s : ℕ) × Contains above s × IsClass w s × IsMemberMethod w s m)
-  lower_parts c m above under h =
+  pub lower_parts : (c m : ℕ) (supers : List ℕ) → AreSuperclasses w c supers → IsLower w c m → IsInherited w c m × ((s : ℕ) × Contains supers s × IsMemberMethod w s m)
+  lower_parts c m supers are h =
       let s = h.0 in
-      (is_inherited c s.0 m s.2, (s.0, (under.right s.0).1 s.2.0, s.1.2, s.2.1))
+      (is_inherited c s.0 m s.2, (s.0, (are s.0).1 s.1, s.2.1))
 
   -- the class c has k from an interface
   abbrev pub IsUpper : ℕ → ℕ → Type 0
   IsUpper c k = (i : ℕ) × IsSuperinterface w c i × Inherits w c i k
 
-  pub upper_told : (c k : ℕ) (above : List ℕ) → IsClassUnder w c above → IsInherited w c k → (i : ℕ) × Contains above i × IsInterface w i × IsMemberMethod w i k → IsUpper c k
-  upper_told c k above under inh h =
-      let up = (under.right h.0).0 h.1 in
-      (h.0, (direct_of_class c h.0 under.class up, h.2), from_each c h.0 k inh up h.3)
+  pub upper_told : (c k : ℕ) (above : List ℕ) → ((s : ℕ) → Contains above s ↔ IsSupertype w c s) → IsInherited w c k → (i : ℕ) × Contains above i × IsInterface w i × IsMemberMethod w i k → IsUpper c k
+  upper_told c k above supers inh h =
+      let up = (supers h.0).0 h.1 in
+      (h.0, (up, h.2), from_each c h.0 k inh (inl up) h.3)
 
   pub meet_parts : (c m k : ℕ) → MeetIn w c m k → IsUpper c k × Meets w c m k
   meet_parts c m k h = let both = h.0 in (both.1, ((both.0, both.2), h.1, h.2))
@@ -155,19 +148,19 @@ module _ (w : World) where
       (inh.0, (minfo.0, minfo.1, shape.0, shape.1))
 
   -- pairs of the members k of interfaces above that c has, and what meets them, are the meetings
-  pub meetings_told : (c : ℕ) (above upper : List ℕ) (ps : List Meeting) → IsClassUnder w c above
+  pub meetings_told : (c : ℕ) (above upper : List ℕ) (ps : List Meeting) → ((s : ℕ) → Contains above s ↔ IsSupertype w c s)
       → ((k : ℕ) → Contains upper k ↔ ((i : ℕ) × Contains above i × IsInterface w i × IsMemberMethod w i k))
       → ((p : Meeting) → Contains ps p ↔ ((k : ℕ) × Contains upper k × (IsInherited w c k × (p.upper ≡ k) × Meets w c p.lower k))) → AreMeetings w c ps
-  meetings_told c above upper ps under ups has m k = (
+  meetings_told c above upper ps supers ups has m k = (
     λ h.
         let from = (has (record { lower = m; upper = k })).0 h in
         let is = from.2 in
-        let up : IsUpper c from.0 = upper_told c from.0 above under is.0 ((ups from.0).0 from.1) in
+        let up : IsUpper c from.0 = upper_told c from.0 above supers is.0 ((ups from.0).0 from.1) in
         subst (MeetIn w c m) (sym is.1) (meet_whole c m from.0 up is.2),
     λ h.
         let parts = meet_parts c m k h in
         let up = parts.0 in
-        (has (record { lower = m; upper = k })).1 (k, (ups k).1 (up.0, (under.right up.0).1 up.2.0, up.1.1, up.2.1), (is_inherited c up.0 k up.2, refl, parts.1)),
+        (has (record { lower = m; upper = k })).1 (k, (ups k).1 (up.0, (supers up.0).1 up.1.0, up.1.1, up.2.1), (is_inherited c up.0 k up.2, refl, parts.1)),
   )
 
   pub none_meet : (c : ℕ) (ps : List Meeting) → ps ≡ [] → (IsClass w c → ⊥) → AreMeetings w c ps
@@ -176,45 +169,19 @@ module _ (w : World) where
     λ h. let s = h.0.0 in absurd (not s.1.0),
   )
 
-  -- ---- the types directly above
+  -- ---- the declared supertypes
 
-  -- the supertypes' classes, of a type that is no interface without supertypes
-  pub above_without : (c : ℕ) (info : TypeInfo) (items : List JavaType) (above : List ℕ) → slice_get w.types c ≡ Some info → items ≡ info.supers
-      → ((s : ℕ) → Contains above s ↔ ((d : JavaType) × Contains items d × ((args : List JavaType) × (d ≡ ty.Class s args)))) → ((info.interface ≡ true) × (info.supers ≡ []) → ⊥)
-      → (s : ℕ) → Contains above s ↔ IsDirectlyAbove w c s
-  above_without c info items above at list has not s = (
-    λ h. let from = (has s).0 h in inl (direct from.0 from.1 from.2),
-    λ h. elim h [
-      | inl d ↦
-          let same_info : d.1.0 ≡ info = cc (d.1.1, at) in
-          let there : slice_get items d.1.2 ≡ Some (ty.Class s d.0) = ap (λ l. slice_get l d.1.2) list ∙ ap (λ (x : TypeInfo). slice_get x.supers d.1.2) (sym same_info) ∙ d.1.3 in
-          (has s).1 (ty.Class s d.0, at_contains items d.1.2 (ty.Class s d.0) there, (d.0, refl))
-      | inr top ↦
-          let is = top.1 in
-          let same_info : is.0 ≡ info = cc (is.1, at) in
-          absurd (not (ap (λ (x : TypeInfo). x.interface) (sym same_info) ∙ is.2, ap (λ (x : TypeInfo). x.supers) (sym same_info) ∙ is.3))
-    ],
+  pub supertypes_told : (c : ℕ) (info : TypeInfo) (items : List JavaType) (supers : List ℕ) → slice_get w.types c ≡ Some info → items ≡ info.supers
+      → ((s : ℕ) → Contains supers s ↔ ((d : JavaType) × Contains items d × ((args : List JavaType) × (d ≡ ty.Class s args)))) → (s : ℕ) → Contains supers s ↔ IsSupertype w c s
+  supertypes_told c info items supers at list has s = (
+    λ h. let from = (has s).0 h in direct from.0 from.1 from.2,
+    λ d.
+        let same_info : d.1.0 ≡ info = cc (d.1.1, at) in
+        let there : slice_get items d.1.2 ≡ Some (ty.Class s d.0) = ap (λ l. slice_get l d.1.2) list ∙ ap (λ (x : TypeInfo). slice_get x.supers d.1.2) (sym same_info) ∙ d.1.3 in
+        (has s).1 (ty.Class s d.0, at_contains items d.1.2 (ty.Class s d.0) there, (d.0, refl)),
   )
     where
-      direct : (d : JavaType) → Contains items d → (args : List JavaType) × (d ≡ ty.Class s args) → (args : List JavaType) × IsDirectSuper w c (ty.Class s args)
+      direct : (d : JavaType) → Contains items d → (args : List JavaType) × (d ≡ ty.Class s args) → IsSupertype w c s
       direct d there shape =
           let place = contains_at items d there in
           (shape.0, (info, at, place.0, ap (λ l. slice_get l place.0) (sym list) ∙ place.1 ∙ ap (λ d. Some d) shape.1))
-
-  -- Object, of an interface without supertypes
-  pub above_with : (c : ℕ) (info : TypeInfo) (items : List JavaType) (above new : List ℕ) → slice_get w.types c ≡ Some info → items ≡ info.supers
-      → ((s : ℕ) → Contains above s ↔ ((d : JavaType) × Contains items d × ((args : List JavaType) × (d ≡ ty.Class s args)))) → info.interface ≡ true → info.supers ≡ []
-      → new ≡ above ++ 0 ∷ [] → (s : ℕ) → Contains new s ↔ IsDirectlyAbove w c s
-  above_with c info items above new at list has interface empty made s = (
-    λ h. elim (Contains-push_cases above 0 s (subst (λ l. Contains l s) made h)) [
-      | inl was ↦ let from = (has s).0 was in let no = none_in items from.0 (list ∙ empty) from.1 in absurd no
-      | inr zero_is ↦ inr (sym zero_is, (info, at, interface, empty))
-    ],
-    λ h. subst (λ l. Contains l s) (sym made) (elim h [
-      | inl d ↦
-          let same_info : d.1.0 ≡ info = cc (d.1.1, at) in
-          let there : slice_get [] d.1.2 ≡ Some (ty.Class s d.0) = ap (λ l. slice_get l d.1.2) (sym empty) ∙ ap (λ (x : TypeInfo). slice_get x.supers d.1.2) (sym same_info) ∙ d.1.3 in
-          absurd (cc there)
-      | inr top ↦ subst (Contains (above ++ 0 ∷ [])) (sym top.0) (Contains-push above 0)
-    ]),
-  )

@@ -2,18 +2,20 @@
 use Rattle.std.specs.Prelude.{◌≡◌, ℕ, ◌↔◌, List, Some, slice_get, length}
 use Rattle.std.specs.List.{Contains}
 use Rattle.class_world.specs.declared.world.World.{World}
+use Rattle.class_world.specs.declared.world.JavaType.{JavaType}
+use Rattle.class_world.specs.declared.world.JavaType.TheVariants as ty
+use Rattle.class_world.specs.Subclasses.{IsDirectSuper}
 use Rattle.class_world.specs.Signatures.{HaveOneSignatureIn}
-use Rattle.class_world.specs.Inheritance.{DeclaresMethod, IsDirectlyAbove, IsMemberMethod, IsPrivateMethod, Inherits}
-use Rattle.class_world.specs.Overriding.{IsClass, IsSuperclass, IsDeclaredBelow}
+use Rattle.class_world.specs.Inheritance.{DeclaresMethod, IsMemberMethod, Inherits}
+use Rattle.class_world.specs.Overriding.{IsClass, IsSuperclass}
 
--- k is not private and has one signature with m in the type c
-abbrev pub Suits : World → ℕ → ℕ → ℕ → Type 0
-Suits w c m k = (IsPrivateMethod w k → ⊥) × HaveOneSignatureIn w c m k
+-- the class of a declared supertype of c
+abbrev pub IsSupertype : World → ℕ → ℕ → Type 0
+IsSupertype w c s = (args : List JavaType) × IsDirectSuper w c (ty.Class s args)
 
--- the class c is right under the listed types
-pub record IsClassUnder (w : World) (c : ℕ) (above : List ℕ) : Type 0 where
-  pub class : IsClass w c
-  pub right : (s : ℕ) → Contains above s ↔ IsDirectlyAbove w c s
+-- the listed types are the superclasses of the class c: one or none
+abbrev pub AreSuperclasses : World → ℕ → List ℕ → Type 0
+AreSuperclasses w c supers = (s : ℕ) → Contains supers s ↔ IsSuperclass w c s
 
 -- a member of c that c does not declare
 abbrev pub IsInherited : World → ℕ → ℕ → Type 0
@@ -25,7 +27,7 @@ IsLower w c m = ((s : ℕ) × IsSuperclass w c s × Inherits w c s m) × ((o : �
 
 -- m meets k in the class c, if that has k from an interface
 abbrev pub Meets : World → ℕ → ℕ → ℕ → Type 0
-Meets w c m k = IsLower w c m × (IsDeclaredBelow w m k → ⊥) × HaveOneSignatureIn w c m k
+Meets w c m k = IsLower w c m × (m ≡ k → ⊥) × HaveOneSignatureIn w c m k
 
 -- no element stands twice
 abbrev pub IsOnce : {A : Type 0} → List A → Type 0

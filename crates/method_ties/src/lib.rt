@@ -11,10 +11,7 @@ mod lists;
 mod meet;
 mod replace;
 mod supers;
-#[cfg(test)]
-mod tests;
-#[cfg(test)]
-mod worlds;
+mod tables;
 
 use class_world::World;
 use java_tree::{Items, NoMemory};
@@ -40,7 +37,7 @@ pub struct MethodTies {
 impl MethodTies {
     /// The ties of a sound world's methods.
     ///
-    /// Takes time for each method and each type directly above its own, for each member of each type's superinterfaces, and for the pairs within one name and number of parameters that such a look compares, each with the steps up to the types that declare the two.
+    /// Takes time for each method, for each member of each type's superinterfaces, and for the pairs that have one signature, each with the steps up to the types that declare the two. Where a list of one name and number of parameters has more than four methods, these are numbered by their signatures, once for the type that compares them; the methods of a type are to have numbers in a row, as in the world of a program, since the lists of another type are forgotten.
     pub fn of(alloc: Global, w: &World, lists: &MethodLists) -> Result<MethodTies, NoMemory>
         requires sound { IsSound w.now }
         requires lists { HoldsMethods w.now lists.now }

@@ -16,7 +16,7 @@ use Rattle.method_ties.specs.declared.Meeting.{Meeting}
 use Rattle.method_ties.specs.Ties.{AreMeetings}
 use Rattle.override_rules.specs.Rules.{Suits, BreaksResult, IsWeaker, ThrowsMore, HasMod, AreOfOneKind, Breaks, result, access_of, throws, final, static}
 use Rattle.override_rules.specs.Judged.{IsLowest, HasKnownOwner, AreOfWorld, NamesMore, BreaksPair, BreaksMet}
-use Rattle.override_rules.specs.Typed.{HaveTypes}
+use Rattle.class_world.specs.Typed.{HaveTypes}
 use Rattle.override_rules.proofs.Listed.{contained_at}
 use Rattle.override_rules.proofs.Numbers.{UpTo, lowest_alike}
 use Rattle.override_rules.proofs.Seen.{one_method}

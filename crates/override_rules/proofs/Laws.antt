@@ -10,10 +10,10 @@ use Rattle.class_world.specs.Subtypes.{through}
 use Rattle.class_world.specs.Sound.{IsSound}
 use Rattle.class_world.specs.Signatures.{IsMethod, IsSeenWith}
 use Rattle.class_world.specs.Inheritance.{DeclaresMethod}
-use Rattle.class_world.specs.Overriding.{IsDeclaredBelow}
+use Rattle.seen_methods.specs.Closed.{IsDeclaredBelow}
 use Rattle.seen_methods.specs.Seen.{HasResult}
 use Rattle.override_rules.specs.Rules.{Suits, BreaksResult, access, IsWeaker, ThrowsMore, AreOfOneKind, Breaks, result, access_of, throws, final, static}
-use Rattle.override_rules.specs.Typed.{HaveTypes}
+use Rattle.class_world.specs.Typed.{HaveTypes}
 use Rattle.override_rules.proofs.Seen.{one_method, seen_own, seen_parts, suits_put, suits_through, result_through, result_of_own}
 
 -- of three methods of which two pairs are of one kind, the third pair is too

@@ -11,8 +11,9 @@ use Rattle.class_world.specs.Types.{substitute, variables, with_own, IsReference
 use Rattle.class_world.specs.Subtypes.{Subtype, same, through}
 use Rattle.class_world.specs.Sound.{IsSound, IsOfWorld, IsKnown}
 use Rattle.class_world.specs.Signatures.{IsMethod, IsSeenWith}
-use Rattle.class_world.specs.Overriding.{Replaces, IsDeclaredBelow}
+use Rattle.class_world.specs.Overriding.{Replaces}
 use Rattle.seen_methods.specs.Seen.{HasResult}
+use Rattle.seen_methods.specs.Closed.{IsDeclaredBelow}
 use Rattle.class_world.proofs.Forms.{same_class}
 use Rattle.class_world.proofs.Substs.{put_class, put_own, put_refers, put_twice, length_map, variables_length}
 use Rattle.class_world.proofs.Orders.{class_parts, class_above, class_supers, own_over, put_over}
@@ -20,7 +21,7 @@ use Rattle.class_world.proofs.Lifts.{put_below}
 use Rattle.class_world.proofs.Steps.{put_same}
 use Rattle.override_rules.specs.Rules.{Suits, TakesPlace, at_once, further}
 use Rattle.override_rules.specs.Judged.{HasKnownOwner, ResultIsOfWorld}
-use Rattle.override_rules.specs.Typed.{HaveTypes}
+use Rattle.class_world.specs.Typed.{HaveTypes}
 
 pub one_method : (w : World) (m : ℕ) (i j : MethodInfo) → IsMethod w m i → IsMethod w m j → i ≡ j
 one_method w m i j a b = cc (a.0, b.0)

@@ -10,11 +10,11 @@ use Rattle.class_world.specs.declared.world.World.{World}
 use Rattle.class_world.specs.declared.world.MethodInfo.{MethodInfo}
 use Rattle.class_world.specs.Sound.{IsSound}
 use Rattle.class_world.specs.Inheritance.{DeclaresMethod}
-use Rattle.class_world.specs.Overriding.{IsDeclaredBelow}
+use Rattle.seen_methods.specs.Closed.{IsDeclaredBelow}
 use Rattle.method_ties.specs.Ties.{AreReplaced}
 use Rattle.override_rules.specs.Rules.{Breaks, TakesPlace, at_once, further}
 use Rattle.override_rules.specs.Judged.{IsLowest, lower_of, BreaksAbove, AreClean, IsReplacedBy, IsBehind, IsMarked, Pushes}
-use Rattle.override_rules.specs.Typed.{HaveTypes}
+use Rattle.class_world.specs.Typed.{HaveTypes}
 use Rattle.override_rules.proofs.Numbers.{IsAtMost, lowest_at_most, lowest_in, at_most_left, at_most_right, lower_cases, lowest_from}
 use Rattle.override_rules.proofs.Seen.{taken_below, taken_on}
 use Rattle.override_rules.proofs.Laws.{law}

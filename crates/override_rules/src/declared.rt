@@ -8,7 +8,7 @@ ghost use Rattle.rule_order.specs.First.{IsFirst};
 ghost use Rattle.class_world.specs.Sound.{IsSound};
 ghost use Rattle.method_ties.specs.Ties.{HoldsTies};
 ghost use Rattle.override_rules.specs.Judged.{AreClean, BreaksAbove, DeclaredBreaches, IsBehind, IsLowest, IsMarked, Pushes};
-ghost use Rattle.override_rules.specs.Typed.{HaveTypes};
+ghost use Rattle.class_world.specs.Typed.{HaveTypes};
 
 use crate::lowest::{breach_at, lower};
 use crate::order::in_order;

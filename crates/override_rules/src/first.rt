@@ -5,7 +5,7 @@ ghost use Rattle.rule_order.specs.First.{IsFirst};
 ghost use Rattle.class_world.specs.Sound.{IsSound};
 ghost use Rattle.method_ties.specs.Ties.{HoldsTies};
 ghost use Rattle.override_rules.specs.Rules.{OverrideBreaches};
-ghost use Rattle.override_rules.specs.Typed.{HaveTypes};
+ghost use Rattle.class_world.specs.Typed.{HaveTypes};
 
 use crate::declared::first_declared;
 use crate::inherited::first_inherited;

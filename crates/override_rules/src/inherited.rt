@@ -7,7 +7,7 @@ ghost use Rattle.class_world.specs.Sound.{IsSound};
 ghost use Rattle.class_world.specs.Overriding.{MeetIn};
 ghost use Rattle.method_ties.specs.Ties.{AreMeetings, HoldsTies};
 ghost use Rattle.override_rules.specs.Judged.{BreaksMet, BreaksPair, InheritedBreaches, IsLowest, TypeBreaches};
-ghost use Rattle.override_rules.specs.Typed.{HaveTypes};
+ghost use Rattle.class_world.specs.Typed.{HaveTypes};
 
 use crate::lowest::{breach_at, lower};
 use crate::over::lowest_broken;

@@ -7,8 +7,6 @@ mod inherited;
 mod lowest;
 mod order;
 mod over;
-#[cfg(test)]
-mod tests;
 mod throwing;
 
 pub use first::first_override_breach;

@@ -9,7 +9,7 @@ ghost use Rattle.class_world.specs.Signatures.{IsMethod};
 ghost use Rattle.override_rules.specs.Judged.{HasAccess, HasKnownOwner, IsLowest, ResultIsOfWorld};
 ghost use Rattle.override_rules.specs.Rules.{Breaks, BreaksResult, HasMod, IsWeaker, Suits};
 ghost use Rattle.override_rules.specs.Rules as spec;
-ghost use Rattle.override_rules.specs.Typed.{HaveTypes};
+ghost use Rattle.class_world.specs.Typed.{HaveTypes};
 
 use crate::throwing::throws_more;
 use class_world::{JavaType, MethodInfo, World, is_same, is_sub};

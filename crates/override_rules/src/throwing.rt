@@ -8,7 +8,7 @@ ghost use Rattle.class_world.specs.Subtypes.{Subtype};
 ghost use Rattle.class_world.specs.Sound.{IsOfWorld, IsSound};
 ghost use Rattle.override_rules.specs.Judged.{AreOfWorld, HasKnownOwner, NamesMore};
 ghost use Rattle.override_rules.specs.Rules.{IsUncheckedException, ThrowsMore};
-ghost use Rattle.override_rules.specs.Typed.{HaveTypes};
+ghost use Rattle.class_world.specs.Typed.{HaveTypes};
 
 use crate::over::method;
 use class_world::{JavaType, World, is_sub, super_as};

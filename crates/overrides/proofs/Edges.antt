@@ -11,6 +11,8 @@ use Rattle.class_world.proofs.Words.{same_or_other}
 use Rattle.overrides.specs.declared.at_once.TheConstants.{FREE, ASKED, APART}
 use Rattle.overrides.specs.Tables.{Rows, AreOfOneSize, IsWritten, value_at}
 use Rattle.overrides.specs.AtOnce.{IsTie, IsTied, AreTies, KeepsTies, AreAllTies, IsDeclaredTie}
+use Rattle.overrides.specs.Scopes.{IsPlain}
+use Rattle.overrides.proofs.Plains.{plain_free}
 use Rattle.overrides.proofs.Gains.{size_on}
 
 -- the rows and the keys of instance methods
@@ -58,11 +60,11 @@ module _ (w : World) (old new : Rows) (m k v : ℕ) (ties : AreTies w old) (size
 pub declared_is : (w : World) (c m k v : ℕ) → IsDeclaredTie w v → Replaces w c m k → AreInstanceMethods w m k → IsTie w m k v
 declared_is w c m k v tie r are = record { tied = λ e. by.declared r are; free = λ e. tie.free e c m k r; apart = λ e. absurd (tie.tied e) }
 
-pub asked_is : (w : World) (c m k : ℕ) → MeetIn w c m k → AreInstanceMethods w m k → AgreeBelow w m k → IsTie w m k ASKED
-asked_is w c m k meet are agree = record {
+pub met_is : (w : World) (c m k v : ℕ) → MeetIn w c m k → AreInstanceMethods w m k → AgreeBelow w m k → (v ≡ APART → ⊥) → (v ≡ FREE → IsPlain w m) → IsTie w m k v
+met_is w c m k v meet are agree tied plain = record {
   tied = λ e. by.inherited meet are agree;
-  free = λ e. absurd (let never : ASKED ≡ FREE = e in omega (arith, never));
-  apart = λ e. absurd (let never : ASKED ≡ APART = e in omega (arith, never));
+  free = λ e. plain_free w c m k (plain e) meet;
+  apart = λ e. absurd (tied e);
 }
 
 pub apart_is : (w : World) (m k : ℕ) → (AgreeBelow w m k → ⊥) → IsTie w m k APART

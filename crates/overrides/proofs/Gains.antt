@@ -7,19 +7,18 @@ use Rattle.class_world.specs.Signatures.{AgreeBelow}
 use Rattle.class_world.specs.Overriding as by
 use Rattle.class_world.specs.Overriding.{OverridesAtOnce, Overriding}
 use Rattle.class_world.proofs.Words.{same_or_other}
-use Rattle.overrides.specs.declared.at_once.TheConstants.{APART}
 use Rattle.overrides.specs.Tables.{Rows, IsOfSize, AreOfOneSize, IsBegun, Has, value_at}
 use Rattle.overrides.specs.AtOnce.{IsFree}
-use Rattle.overrides.specs.Rounds.{IsDerived, IsStep, IsFollowed, IsClosedAt, HoldsOverriding}
+use Rattle.overrides.specs.Rounds.{Grows, IsDerived, IsStep, IsFollowed, IsJoined, HoldsOverriding}
 use Rattle.overrides.proofs.Places.{items_more, items_all}
-use Rattle.overrides.proofs.Belows.{at_once_within, overriding_within}
+use Rattle.overrides.proofs.Belows.{overriding_within}
 
 -- ---- steps one after another
 
 pub step_none : (t : Rows) → IsStep t t false
 step_none t = record { grows = λ m k h. h; gains = λ e. absurd (cc e); same = λ e. refl }
 
-step_on : {a b c : Rows} {x : Bool} → IsStep a b x → IsStep b c true → IsStep a c true
+pub step_on : {a b c : Rows} {x : Bool} → IsStep a b x → IsStep b c true → IsStep a c true
 step_on {a = a} {b = b} {c = c} first second =
     let gains = second.gains refl in
     record {
@@ -28,7 +27,7 @@ step_on {a = a} {b = b} {c = c} first second =
       same = λ e. absurd (cc e);
     }
 
-step_still : {a b c : Rows} {x : Bool} → IsStep a b x → IsStep b c false → IsStep a c x
+pub step_still : {a b c : Rows} {x : Bool} → IsStep a b x → IsStep b c false → IsStep a c x
 step_still {a = a} {b = b} {c = c} {x = x} first second = subst (λ t. IsStep a t x) (sym (second.same refl)) first
 
 pub same_size : {n : ℕ} {old new : Rows} → IsOfSize n old → IsOfSize n new → AreOfOneSize old new
@@ -39,7 +38,19 @@ size_on old same = record { rows = same.rows ∙ old.rows; keys = same.keys ∙ 
 
 -- ---- a row begun
 
-module _ (old new : Rows) (m t : ℕ) (begun : IsBegun old new m t) (bare : (k : ℕ) → value_at old m k ≡ None) where
+module _ (old new : Rows) (m t : ℕ) (begun : IsBegun old new m t) where
+  pub begun_others : (a b : ℕ) → (a ≡ m → ⊥) → Has old a b → Has new a b
+  begun_others a b other h = (h.0, begun.there a b other ∙ h.1)
+
+  pub begun_joined : (w : World) → IsJoined w old new m t
+  begun_joined w = record {
+    has = begun.here;
+    all = λ k h other agree. elim (same_or_other k t) [
+      | inl key ↦ subst (λ i. Has new m i) (sym key) begun.here
+      | inr apart ↦ (h.0, begun.row k (λ e. other (sym e)) apart ∙ h.1)
+    ];
+  }
+
   begun_row : (w : World) → IsDerived w old → OverridesAtOnce w m t → IsFree w m t → (b : ℕ) → Has new m b → Overriding w m b
   begun_row w derived edge free b h = elim (same_or_other b t) [
     | inl key ↦ subst (Overriding w m) (sym key) (by.at_once edge)
@@ -79,21 +90,21 @@ derived_row w t m k derived up = let lt = (overriding_within up).0 in omega (ari
 pub derived_key : (w : World) (t : Rows) (m k : ℕ) → IsDerived w t → Overriding w m k → k < t.maps.keys
 derived_key w t m k derived up = let lt = (overriding_within up).1 in omega (arith, lt, derived.size.keys)
 
--- rows that are closed have all
-module _ (w : World) (t : Rows) (closed : (m : ℕ) → m < length w.methods → IsClosedAt w t m) where
+-- rows in which each pair is followed have all
+module _ (w : World) (t : Rows) (followed : (m x : ℕ) → OverridesAtOnce w m x → IsFollowed w t m x) where
   has_all : {m k : ℕ} → Overriding w m k → Has t m k
-  has_all (by.at_once {m = m} {k = k} edge) = (closed m (at_once_within edge).0 k edge).0
-  has_all (by.through {m = m} {t = x} {k = k} edge up other agree) = (closed m (at_once_within edge).0 x edge).1 k (has_all up) other agree
+  has_all (by.at_once {m = m} {k = k} edge) = (followed m k edge).0
+  has_all (by.through {m = m} {t = x} {k = k} edge up other agree) = (followed m x edge).1 k (has_all up) other agree
 
-  pub closed_holds : IsDerived w t → HoldsOverriding w t
-  closed_holds derived m k = (derived.sound m k, has_all)
+  pub followed_holds : IsDerived w t → HoldsOverriding w t
+  followed_holds derived m k = (derived.sound m k, has_all)
 
--- what is wanted of an entry of the table of ties, and of an entry of what t overrides
-abbrev pub FollowsTie : World → ℕ → Rows → ℕ × ℕ → Type 0
-FollowsTie w m t p = (p.1 ≡ APART → ⊥) → IsFollowed w t m p.0
-
+-- what is wanted of an entry of what t overrides
 abbrev pub HasThird : World → ℕ → Rows → ℕ × ℕ → Type 0
 HasThird w m t p = (m ≡ p.0 → ⊥) → AgreeBelow w m p.0 → Has t m p.0
+
+pub third_on : (w : World) (m : ℕ) (old new : Rows) (p : ℕ × ℕ) → Grows old new → HasThird w m old p → HasThird w m new p
+third_on w m old new p grows h other agree = grows m p.0 (h other agree)
 
 -- ---- a pass over items, each of which may add to the rows: where nothing was added, all is as it was, and what is wanted of an item holds of each so far
 
@@ -122,10 +133,6 @@ module _ {A : Type 0} (w : World) (start : Rows) (P : Rows → A → Type 0) (it
       step = subst (IsStep start new) (sym is) (step_still pass.step (subst (IsStep now new) told step));
       done = λ e. items_more (P new) items i x (λ j y lt is_y. subst (λ t. P t y) (sym (step.same told)) (pass.done (sym is ∙ e) j y lt is_y)) at (here told);
     }
-
-    -- it was passed over
-    pub pass_skips : P now x → IsPass w start now added P items (i + 1)
-    pass_skips here = record { derived = pass.derived; step = pass.step; done = λ e. items_more (P now) items i x (pass.done e) at here }
 
   pub pass_ends : (now : Rows) (added : Bool) (i : ℕ) → IsPass w start now added P items i → length items ≤ i → added ≡ false → (x : A) → Contains items x → P now x
   pass_ends now added i pass done e = items_all (P now) items i (pass.done e) done

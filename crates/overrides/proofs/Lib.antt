@@ -1,9 +1,11 @@
 pub mod Places
-pub mod Puts
 pub mod Belows
+pub mod Plains
 pub mod Grids
-pub mod Edges
 pub mod Gains
+pub mod Edges
+pub mod Linked
+pub mod Taken
 pub mod Gaps
 pub mod Marks
 pub mod Groups

@@ -1,7 +1,8 @@
 -- Places in lists, and answers of calls.
-use Rattle.std.proofs.Common.{◌≡◌, ℕ, ◌+◌, ◌<◌, ◌≤◌, Bool, true, false, List, Option, Some, None, Result, Ok, Err, ◌⊎◌, inl, inr, sym, ap, ◌∙◌, subst, length, arith}
+use Rattle.std.proofs.Common.{◌≡◌, ℕ, ◌+◌, ◌<◌, ◌≤◌, Bool, true, false, not, List, Option, Some, None, Result, Ok, Err, ◌⊎◌, inl, inr, sym, ap, ◌∙◌, subst, length, arith}
 use Rattle.std.specs.Prelude.{slice_get, is_some, OnOk}
 use Rattle.std.specs.List.{Contains}
+use Rattle.std.proofs.lemmas.Bool.{not_from_true}
 use Rattle.std.proofs.lemmas.Option.{slice_get_within, slice_get-get_or, get_or_from_slice_get}
 
 pub contains_at : {A : Type 0} (xs : List A) (x : A) → Contains xs x → (j : ℕ) × (slice_get xs j ≡ Some x)
@@ -48,3 +49,7 @@ none_there (Some v) value b is told not = absurd (cc (told, not))
 pub some_there : (found value : Option ℕ) (b : Bool) → found ≡ value → b ≡ is_some found → b ≡ true → (v : ℕ) × (value ≡ Some v)
 some_there None value b is told so = absurd (cc (told, so))
 some_there (Some v) value b is told so = (v, sym is)
+
+pub absent : (found value : Option ℕ) (b : Bool) → found ≡ value → is_some found ≡ not b → b ≡ true → value ≡ None
+absent None value b is told so = sym is
+absent (Some v) value b is told so = let never = not_from_true b so in absurd (cc (told, never))

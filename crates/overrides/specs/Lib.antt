@@ -1,6 +1,7 @@
 pub mod Tables
 pub mod Scopes
 pub mod AtOnce
+pub mod Links
 pub mod Rounds
 pub mod Families
 pub mod Orders

@@ -1,9 +1,12 @@
 -- The rounds that add what follows from what each method overrides at once.
-use Rattle.std.specs.Prelude.{◌≡◌, ℕ, Bool, true, false, length, ◌↔◌}
+use Rattle.std.specs.Prelude.{◌≡◌, ℕ, Bool, true, false, List, Option, Some, slice_get, length, ◌↔◌}
+use Rattle.shared_maps.specs.declared.Map.{Map}
+use Rattle.shared_maps.specs.Maps.{IsMap, value_in}
 use Rattle.class_world.specs.declared.world.World.{World}
 use Rattle.class_world.specs.Signatures.{AgreeBelow}
-use Rattle.class_world.specs.Overriding.{OverridesAtOnce, Overriding}
+use Rattle.class_world.specs.Overriding.{Overriding}
 use Rattle.overrides.specs.Tables.{Rows, IsOfSize, Has}
+use Rattle.overrides.specs.declared.links.Link.{Link}
 
 -- a method has in its row only what it overrides
 pub record IsDerived (w : World) (t : Rows) : Type 0 where
@@ -26,9 +29,24 @@ pub record IsStep (old new : Rows) (added : Bool) : Type 0 where
 abbrev pub IsFollowed : World → Rows → ℕ → ℕ → Type 0
 IsFollowed w table m t = Has table m t × ((k : ℕ) → Has table t k → (m ≡ k → ⊥) → AgreeBelow w m k → Has table m k)
 
--- and so for each t that m overrides at once
-abbrev pub IsClosedAt : World → Rows → ℕ → Type 0
-IsClosedAt w table m = (t : ℕ) → OverridesAtOnce w m t → IsFollowed w table m t
+-- the row of m has t now, and all that m overrides through t, by the row that t had
+pub record IsJoined (w : World) (old new : Rows) (m t : ℕ) : Type 0 where
+  pub has : Has new m t
+  pub all : (k : ℕ) → Has old t k → (m ≡ k → ⊥) → AgreeBelow w m k → Has new m k
+
+-- the row of m has t, and all that m overrides through t, by a map that was the row of t
+pub record IsTaken (w : World) (table : Rows) (m t : ℕ) (map : Map) : Type 0 where
+  pub known : IsMap table.maps map
+  pub has : Has table m t
+  pub all : (k v : ℕ) → value_in table.maps map k ≡ Some v → (m ≡ k → ⊥) → AgreeBelow w m k → Has table m k
+
+-- so by the map that stands beside a link, if there is one
+abbrev pub HasTaken : World → Rows → Link → Option Map → Type 0
+HasTaken w table x taken = (map : Map) → taken ≡ Some map → IsTaken w table x.lower x.upper map
+
+-- beside each link
+abbrev pub AreTaken : World → Rows → List Link → List (Option Map) → Type 0
+AreTaken w table links taken = (i : ℕ) (x : Link) (o : Option Map) → slice_get links i ≡ Some x → slice_get taken i ≡ Some o → HasTaken w table x o
 
 abbrev pub HoldsOverriding : World → Rows → Type 0
 HoldsOverriding w t = (m k : ℕ) → Has t m k ↔ Overriding w m k

@@ -1,18 +1,25 @@
--- Types over the parameters of one class: arguments put twice are the ones put at once.
-use Rattle.std.specs.Prelude.{◌≡◌, ℕ, List, Some, slice_get, length, map}
+-- Which type variables the parameter types of methods have.
+use Rattle.std.specs.Prelude.{◌≡◌, ℕ, Bool, false, nat_eq}
+use Rattle.std.specs.HashSet.{contains}
+use Rattle.java_tree.specs.declared.tree.Name.{Name}
 use Rattle.class_world.specs.declared.world.World.{World}
-use Rattle.class_world.specs.declared.world.TypeInfo.{TypeInfo}
 use Rattle.class_world.specs.declared.world.MethodInfo.{MethodInfo}
-use Rattle.class_world.specs.declared.world.JavaType.{JavaType}
-use Rattle.class_world.specs.Types.{substitute}
+use Rattle.class_world.specs.Signatures.{IsMethod}
+use Rattle.seen_methods.specs.Closed.{AreClosed}
+use Rattle.seen_methods.specs.Scopes.{IsScoped}
+use Rattle.overrides.specs.declared.open_names.OpenNames.{OpenNames}
 
--- n arguments leave none of the type's variables
-abbrev pub IsOver : ℕ → JavaType → Type 0
-IsOver n t = (xs args : List JavaType) → length args ≡ n → substitute xs (substitute args t) ≡ substitute (map (substitute xs) args) t
-
-abbrev pub AreOver : ℕ → List JavaType → Type 0
-AreOver n ts = (xs args : List JavaType) → length args ≡ n → map (substitute xs) (map (substitute args) ts) ≡ map (substitute (map (substitute xs) args)) ts
-
--- the parameter types of all methods have no variables but those of the types that declare them
+-- those of all methods have none but the variables of the types that declare them
 abbrev pub AreScoped : World → Type 0
-AreScoped w = (m : ℕ) (info : MethodInfo) (owner : TypeInfo) → slice_get w.methods m ≡ Some info → slice_get w.types info.owner ≡ Some owner → AreOver owner.params info.params
+AreScoped w = (m : ℕ) → IsScoped w m
+
+-- those of all methods of the name of m have none
+abbrev pub IsPlain : World → ℕ → Type 0
+IsPlain w m = (k : ℕ) (i j : MethodInfo) → IsMethod w m i → IsMethod w k j → i.name ≡ j.name → AreClosed j.params
+
+abbrev pub is_open : OpenNames → Name → Bool
+is_open t n = contains nat_eq t.names n.0
+
+-- each method with a variable has one of the names
+abbrev pub AreOpen : World → OpenNames → Type 0
+AreOpen w t = (m : ℕ) (info : MethodInfo) → IsMethod w m info → is_open t info.name ≡ false → AreClosed info.params

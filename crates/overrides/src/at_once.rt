@@ -8,7 +8,9 @@ ghost use Rattle.class_world.specs.Overriding.{AreInstanceMethods, IsInstanceMet
 ghost use Rattle.method_ties.specs.Ties.{AreReplaced, HoldsTies};
 ghost use Rattle.method_ties.specs.declared.Meeting as pairs;
 ghost use Rattle.overrides.specs.AtOnce.{AreAllTies, AreTies, IsDeclaredTie, IsTied, KeepsTies};
+ghost use Rattle.overrides.specs.Scopes.{AreOpen, IsPlain};
 
+use crate::open_names::OpenNames;
 use crate::rows::Table;
 use crate::scopes::are_scoped;
 use class_world::World;
@@ -55,18 +57,29 @@ pub(crate) fn all_at_once(
     let Ok(types) = u32::try_from(w.types.len()) else {
         return Err(NoMemory);
     };
+    let names = OpenNames::of(alloc, w, count)?;
     let mut table = Table::new(alloc, count)?;
     add_declared(w, ties, count, &mut table)?;
-    add_inherited(alloc, w, ties, types, &mut table)?;
+    add_inherited(alloc, w, &names, ties, types, &mut table)?;
     Ok(table)
 }
 
 /// What is written of a method and one whose place it takes: where all parameter types are of the types that declare them, what the two have in common stays below.
-fn declared_tie(w: &World) -> u32
-    requires { IsSound w.now }
+fn declared_tie(w: &World, count: u32) -> u32
+    requires sound { IsSound w.now }
+    requires count { count ≡ length w.now.methods }
     ensures { IsDeclaredTie w.now result }
 {
-    if are_scoped(w) { FREE } else { ASKED }
+    if are_scoped(w, count) { FREE } else { ASKED }
+}
+
+/// What is written of two methods that a class has from both sides: where no method of their name has a variable, all that overriding ties together has one list of parameter types.
+fn met_tie(w: &World, names: &OpenNames, m: u32) -> u32
+    requires { AreOpen w.now names.now }
+    ensures tied { result ≡ APART → ⊥ }
+    ensures free { result ≡ FREE → IsPlain w.now m }
+{
+    if names.is_plain(w, m) { FREE } else { ASKED }
 }
 
 fn add_declared(w: &World, ties: &MethodTies, count: u32, table: &mut Table) -> Result<(), NoMemory>
@@ -77,7 +90,7 @@ fn add_declared(w: &World, ties: &MethodTies, count: u32, table: &mut Table) -> 
     ensures table { OnOk result (AreTies w.now table.new) }
     ensures all { OnOk result ((c m k : ℕ) → Replaces w.now c m k → AreInstanceMethods w.now m k → IsTied table.new m k) }
 {
-    let tie = declared_tie(w);
+    let tie = declared_tie(w, count);
     for m in 0..count {
         add_replaced(w, m, ties.replaced(m), tie, table)?;
     }
@@ -109,11 +122,13 @@ fn add_replaced(
 fn add_inherited(
     alloc: Global,
     w: &World,
+    names: &OpenNames,
     ties: &MethodTies,
     types: u32,
     table: &mut Table,
 ) -> Result<(), NoMemory>
     requires sound { IsSound w.now }
+    requires names { AreOpen w.now names.now }
     requires ties { HoldsTies w.now ties.now }
     requires types { types ≡ length w.now.types }
     requires table { AreTies w.now table.old }
@@ -122,7 +137,7 @@ fn add_inherited(
     ensures all { OnOk result ((c m k : ℕ) → MeetIn w.now c m k → AreInstanceMethods w.now m k → AgreeBelow w.now m k → IsTied table.new m k) }
 {
     for c in 0..types {
-        add_meetings(alloc, w, ties.meetings(c), table)?;
+        add_meetings(alloc, w, names, ties.meetings(c), table)?;
     }
     Ok(())
 }
@@ -130,10 +145,12 @@ fn add_inherited(
 fn add_meetings(
     alloc: Global,
     w: &World,
+    names: &OpenNames,
     meetings: &[Meeting],
     table: &mut Table,
 ) -> Result<(), NoMemory>
     requires sound { IsSound w.now }
+    requires names { AreOpen w.now names.now }
     requires met { (p : pairs.Meeting) → Contains meetings.now p → (c : ℕ) × MeetIn w.now c p.lower p.upper }
     requires table { AreTies w.now table.old }
     ensures table { OnOk result (AreTies w.now table.new) }
@@ -141,7 +158,7 @@ fn add_meetings(
     ensures all { OnOk result ((p : pairs.Meeting) → Contains meetings.now p → AreInstanceMethods w.now p.lower p.upper → AgreeBelow w.now p.lower p.upper → IsTied table.new p.lower p.upper) }
 {
     for meeting in meetings {
-        add_meeting(alloc, w, *meeting, table)?;
+        add_meeting(alloc, w, names, *meeting, table)?;
     }
     Ok(())
 }
@@ -150,10 +167,12 @@ fn add_meetings(
 fn add_meeting(
     alloc: Global,
     w: &World,
+    names: &OpenNames,
     meeting: Meeting,
     table: &mut Table,
 ) -> Result<(), NoMemory>
     requires sound { IsSound w.now }
+    requires names { AreOpen w.now names.now }
     requires met { (c : ℕ) × MeetIn w.now c meeting.lower meeting.upper }
     requires table { AreTies w.now table.old }
     ensures table { OnOk result (AreTies w.now table.new) }
@@ -165,7 +184,7 @@ fn add_meeting(
         return Ok(());
     }
     if agree_below(alloc, w, m, k)? {
-        table.set(m, k, ASKED)
+        table.set(m, k, met_tie(w, names, m))
     } else {
         table.set(m, k, APART)
     }

@@ -12,18 +12,19 @@ ghost use Rattle.overrides.specs.Overrides.{HoldsOverrides};
 
 mod at_once;
 mod families;
+mod links;
 mod listed;
+mod open_names;
 mod order;
 mod rounds;
 mod rows;
 mod scopes;
-#[cfg(test)]
-mod tests;
 
 use at_once::all_at_once;
 use class_world::World;
 use families::labels_of;
 use java_tree::{Items, NoMemory};
+use links::all_links;
 use listed::lists_of;
 use method_ties::MethodTies;
 use order::in_order;
@@ -42,7 +43,7 @@ pub struct Overrides {
 impl Overrides {
     /// What the methods of a sound world override. `NoMemory` also where it has 2^32 methods or types.
     ///
-    /// Takes the time of some rounds, mostly two or three. In each it looks, for each method and each that it overrides at once, at all that this one overrides, each time at as many nodes as method numbers have bits.
+    /// Takes `agree_below` once for each pair that meets, and two rounds over the pairs of which a method overrides the other at once, or three where circles stand among them; each look-up is one at as many nodes as method numbers have bits. The row of what a method overrides begins as that of one of these, with which it shares its nodes, so that a chain takes the time and memory of its methods. Of each further one that it overrides at once the shorter of the two rows is gone through, or the longer one where it was there already; where type variables stand in parameter types, each entry may cost an `agree_below`.
     pub fn of(alloc: Global, w: &World, ties: &MethodTies) -> Result<Overrides, NoMemory>
         requires sound { IsSound w.now }
         requires ties { HoldsTies w.now ties.now }
@@ -53,8 +54,9 @@ impl Overrides {
         };
         let ties = all_at_once(alloc, w, ties, count)?;
         let order = in_order(alloc, w, count)?;
+        let links = all_links(alloc, w, &ties, order.as_slice())?;
         let mut table = Table::new(alloc, count)?;
-        add_all(alloc, w, &ties, order.as_slice(), &mut table)?;
+        add_all(alloc, w, links.as_slice(), &mut table)?;
         let labels = labels_of(alloc, w, &ties, count)?;
         let families = lists_of(alloc, labels.as_slice())?;
         Ok(Overrides {

@@ -1,96 +1,115 @@
 //! Overriding through a third method (JLS 3rd edition, 8.4.8.1).
 
-ghost use Rattle.std.specs.Prelude.{◌≡◌, ℕ, ◌<◌, ◌⊎◌, ◌↔◌, false, length, IsTrue, IfOk, OnOk};
+ghost use Rattle.std.specs.Prelude.{◌≡◌, ℕ, ◌<◌, ◌⊎◌, ◌↔◌, Some, false, length, IsTrue, IfOk, OnOk};
 ghost use Rattle.std.specs.List.{Contains};
+ghost use Rattle.shared_maps.specs.Maps.{KeepsMaps};
 ghost use Rattle.class_world.specs.Sound.{IsSound};
 ghost use Rattle.class_world.specs.Signatures.{AgreeBelow};
 ghost use Rattle.class_world.specs.Overriding.{OverridesAtOnce, Overriding};
+ghost use Rattle.overrides.specs.declared.links.Link as pairs;
 ghost use Rattle.overrides.specs.Tables.{AreOfOneSize, Has};
-ghost use Rattle.overrides.specs.AtOnce.{AreAllTies, IsFree};
-ghost use Rattle.overrides.specs.Rounds.{HoldsOverriding, IsClosedAt, IsDerived, IsFollowed, IsStep};
+ghost use Rattle.overrides.specs.AtOnce.{IsFree};
+ghost use Rattle.overrides.specs.Links.{AreAllLinks, AreLinks, IsLink};
+ghost use Rattle.overrides.specs.Rounds.{AreTaken, Grows, HasTaken, HoldsOverriding, IsDerived, IsFollowed, IsJoined, IsStep, IsTaken};
 
-use crate::at_once::{APART, FREE};
+use crate::links::Link;
 use crate::rows::Table;
 use class_world::World;
 use java_tree::NoMemory;
 use seen_methods::agree_below;
+use shared_maps::Map;
 use std::alloc::Global;
 
-/// Adds what each method overrides, in rounds over all methods, until a round adds nothing.
+/// Adds what each method overrides, in rounds over all links, until a round adds nothing.
 ///
-/// Where the methods of supertypes come first, one round takes over all that comes from methods whose place is taken. A method that a class has beside an interface's can take one more, and so can a circle, as over methods of Object that interfaces declare again; the last round adds nothing. So two or three rounds are the rule.
-///
-/// A round looks, for each method and each that it overrides at once, at all that this one overrides: a look-up each, and `agree_below` where it is not known and was not found to hold before.
+/// Beside each link stands the upper method's row as it was when all of it was taken over. A round passes over the links whose row is still that one, and where it finds no other it was the last. Where upper methods come first, a second round adds only what circles bring, as over methods of Object that interfaces declare again; and it finds a chain as it was, in the time of its links.
 pub(crate) fn add_all(
     alloc: Global,
     w: &World,
-    ties: &Table,
-    order: &[u32],
+    links: &[Link],
     table: &mut Table,
 ) -> Result<(), NoMemory>
     requires sound { IsSound w.now }
-    requires ties { AreAllTies w.now ties.now }
-    requires order { (m : ℕ) → m < length w.now.methods → Contains order.now m }
+    requires links { AreAllLinks w.now links.now }
     requires table { IsDerived w.now table.old }
     ensures { OnOk result (HoldsOverriding w.now table.new) }
 {
+    let mut taken = vec![in alloc; None; links.len()]?;
     'rounds: loop {
-        if !add_round(alloc, w, ties, order, table)? {
+        if !add_round(alloc, w, links, &mut taken, table)? {
             return Ok(());
         }
     }
 }
 
-/// Goes over the methods once, and tells whether that added something.
+/// Goes over the links once, and tells whether that added something.
 fn add_round(
     alloc: Global,
     w: &World,
-    ties: &Table,
-    order: &[u32],
+    links: &[Link],
+    taken: &mut Vec<Option<Map>>,
     table: &mut Table,
 ) -> Result<bool, NoMemory>
     requires sound { IsSound w.now }
-    requires ties { AreAllTies w.now ties.now }
+    requires links { AreLinks w.now links.now }
+    requires size { length taken.old.items ≡ length links.now }
+    requires taken { AreTaken w.now table.old links.now taken.old.items }
     requires table { IsDerived w.now table.old }
+    ensures size { OnOk result (length taken.new.items ≡ length links.now) }
+    ensures taken { OnOk result (AreTaken w.now table.new links.now taken.new.items) }
     ensures table { OnOk result (IsDerived w.now table.new) }
     ensures step { IfOk result (IsStep table.old table.new) }
-    ensures closed { IfOk result (λ added. added ≡ false → (m : ℕ) → Contains order.now m → IsClosedAt w.now table.new m) }
+    ensures closed { IfOk result (λ added. added ≡ false → (x : pairs.Link) → Contains links.now x → IsFollowed w.now table.new x.lower x.upper) }
 {
     let mut added = false;
-    for m in order {
-        if add_method(alloc, w, ties, *m, table)? {
+    for i in 0..links.len() {
+        let (row, more) = add_link(alloc, w, links[i], taken[i], table)?;
+        taken[i] = Some(row);
+        if more {
             added = true;
         }
     }
     Ok(added)
 }
 
-/// Adds what the method `m` overrides at once, and what these override by now.
-fn add_method(
+/// Adds what the lower method of a link overrides through the upper one, unless all of the upper one's row is taken over. Gives this row, and whether something was added.
+fn add_link(
     alloc: Global,
     w: &World,
-    ties: &Table,
-    m: u32,
+    link: Link,
+    taken: Option<Map>,
     table: &mut Table,
-) -> Result<bool, NoMemory>
+) -> Result<(Map, bool), NoMemory>
     requires sound { IsSound w.now }
-    requires ties { AreAllTies w.now ties.now }
+    requires link { IsLink w.now link }
+    requires taken { HasTaken w.now table.old link taken }
     requires table { IsDerived w.now table.old }
     ensures table { OnOk result (IsDerived w.now table.new) }
-    ensures step { IfOk result (IsStep table.old table.new) }
-    ensures closed { IfOk result (λ added. added ≡ false → IsClosedAt w.now table.new m) }
+    ensures maps { OnOk result (KeepsMaps table.old.maps table.new.maps) }
+    ensures step { IfOk result (λ r. IsStep table.old table.new r.1) }
+    ensures taken { IfOk result (λ r. IsTaken w.now table.new link.lower link.upper r.0) }
+    ensures followed { IfOk result (λ r. r.1 ≡ false → IsFollowed w.now table.new link.lower link.upper) }
 {
-    let mut added = false;
-    let ties = ties.list(alloc, m)?;
-    for tie in &ties {
-        if tie.1 != APART && add_through(alloc, w, m, tie.0, tie.1 == FREE, table)? {
-            added = true;
-        }
+    let row = table.row(link.upper);
+    if is_map(taken, row) {
+        return Ok((row, false));
     }
-    Ok(added)
+    let added = add_through(alloc, w, link.lower, link.upper, link.free, table)?;
+    Ok((row, added))
+}
+
+fn is_map(taken: Option<Map>, row: Map) -> bool
+    ensures { IsTrue result → taken ≡ Some row }
+{
+    match taken {
+        Some(map) => map == row,
+        None => false,
+    }
 }
 
 /// Adds what the method `m` overrides through `t`, which it overrides at once.
+///
+/// Where the pair is free, the shorter of the two rows is gone through the first time: that of `m` can begin anew as that of `t`. Else it is that of `t`, with a look-up each, and `agree_below` where the pair is not free.
 fn add_through(
     alloc: Global,
     w: &World,
@@ -104,11 +123,12 @@ fn add_through(
     requires free { IsTrue free → IsFree w.now m t }
     requires table { IsDerived w.now table.old }
     ensures table { OnOk result (IsDerived w.now table.new) }
+    ensures maps { OnOk result (KeepsMaps table.old.maps table.new.maps) }
     ensures step { IfOk result (IsStep table.old table.new) }
-    ensures followed { IfOk result (λ added. added ≡ false → IsFollowed w.now table.new m t) }
+    ensures joined { OnOk result (IsJoined w.now table.old table.new m t) }
 {
-    if free && table.is_bare(m) {
-        table.begin(m, t)?;
+    if free && table.is_no_longer(m, t) && table.get(m, t).is_none() {
+        begin_again(alloc, w, m, t, table)?;
         return Ok(true);
     }
     let mut added = add(m, t, table)?;
@@ -121,10 +141,29 @@ fn add_through(
     Ok(added)
 }
 
+/// Lets the row of `m` begin anew as that of `t`, with `t`, and adds what it had.
+fn begin_again(alloc: Global, w: &World, m: u32, t: u32, table: &mut Table) -> Result<(), NoMemory>
+    requires at_once { OverridesAtOnce w.now m t }
+    requires free { IsFree w.now m t }
+    requires table { IsDerived w.now table.old }
+    ensures table { OnOk result (IsDerived w.now table.new) }
+    ensures maps { OnOk result (KeepsMaps table.old.maps table.new.maps) }
+    ensures grows { OnOk result (Grows table.old table.new) }
+    ensures joined { OnOk result (IsJoined w.now table.old table.new m t) }
+{
+    let own = table.list(alloc, m)?;
+    table.begin(m, t)?;
+    for entry in &own {
+        add(m, entry.0, table)?;
+    }
+    Ok(())
+}
+
 fn add(m: u32, k: u32, table: &mut Table) -> Result<bool, NoMemory>
     requires row { m < length table.old.rows }
     requires key { k < table.old.maps.keys }
     ensures size { OnOk result (AreOfOneSize table.old table.new) }
+    ensures maps { OnOk result (KeepsMaps table.old.maps table.new.maps) }
     ensures step { IfOk result (IsStep table.old table.new) }
     ensures has { OnOk result (Has table.new m k) }
     ensures only { OnOk result ((a b : ℕ) → Has table.new a b → Has table.old a b ⊎ ((a ≡ m) × (b ≡ k))) }
@@ -150,6 +189,7 @@ fn add_third(
     requires free { IsTrue free → AgreeBelow w.now m k }
     requires table { IsDerived w.now table.old }
     ensures table { OnOk result (IsDerived w.now table.new) }
+    ensures maps { OnOk result (KeepsMaps table.old.maps table.new.maps) }
     ensures step { IfOk result (IsStep table.old table.new) }
     ensures has { OnOk result ((m ≡ k → ⊥) → AgreeBelow w.now m k → Has table.new m k) }
 {

@@ -1,5 +1,5 @@
 -- From what a call's parts ensure to the way that it goes.
-use Rattle.std.proofs.Common.{◌≡◌, ◌≢◌, ℕ, zero, suc, ◌+◌, ◌<◌, ◌≤◌, ◌⊎◌, inl, inr, true, Bool, List, [], ◌∷◌, ◌++◌, length, map, get_or, Option, Some, slice_get, Result, Ok, Err, IfOk, refl, sym, ◌∙◌, ap, subst, arith}
+use Rattle.std.proofs.Common.{◌≡◌, ◌≢◌, ℕ, zero, suc, ◌+◌, ◌<◌, ◌≤◌, ◌⊎◌, inl, inr, true, Bool, List, [], ◌∷◌, ◌++◌, length, map, get_or, Option, Some, slice_get, Result, Ok, Err, IfOk, refl, sym, ◌∙◌, ap, subst, arith, length-append}
 use Rattle.std.specs.Prelude.{OnErr}
 use Rattle.std.specs.Str.{bytes_eq}
 use Rattle.std.specs.String.{string_bytes}
@@ -35,8 +35,9 @@ use Rattle.refactor_app.specs.declared.status.Status.TheVariants as s
 use Rattle.refactor_app.specs.declared.decide.Changed.{Changed}
 use Rattle.refactor_app.specs.Words.{Request, inputs, IsAlone, Asks, AskOther, out_name}
 use Rattle.refactor_app.specs.Verdicts.{Refuses}
+use Rattle.refactor_app.specs.Declarations.{AreDeclared}
 use Rattle.refactor_app.specs.Decided.{IsChange}
-use Rattle.refactor_app.specs.Refusals.{AsksFew, HasParsed, Refusal}
+use Rattle.refactor_app.specs.Refusals.{AsksFew, HasDeclared, Refusal}
 use Rattle.refactor_app.specs.Refusals as refusal
 use Rattle.refactor_app.specs.Answers.{Ends}
 use Rattle.refactor_app.specs.Course.{Moment, EndsAt, Finishes, Sequel, Course, IsAsked}
@@ -90,19 +91,19 @@ not_alone q texts look h many is = many (sym (held_long look 0 (inputs q) texts 
 
 module _ (words : List (List ℕ)) (q : Request) (text : List ℕ) (names : List (List ℕ)) (u : SourceUnit) (a b : Moment) (st : Status) where
   -- what becomes of a request on the text is what becomes of the call
-  pub on_alone : HasParsed words a.holds q (text ∷ []) names (u ∷ []) → IsAlone q → Sequel q text a b st → Course words a b st
-  on_alone parsed is (way.Sequel.refuses {line = line} r same ends) = way.Course.refuses (refusal.Refusal.refuses q text names u parsed is r) same ends
-  on_alone parsed is (way.Sequel.writes {made = made} {e = e} c told ends) =
-      way.Course.writes (record { text = text; names = names; unit = u; parsed = parsed; alone = is; changes = c }) told ends
-  on_alone parsed is (way.Sequel.fails {made = made} {e = e} c told rose ends) =
-      way.Course.fails (record { text = text; names = names; unit = u; parsed = parsed; alone = is; changes = c }) told rose ends
-  on_alone parsed is (way.Sequel.no_memory e p none) = way.Course.no_memory e p none
+  pub on_alone : HasDeclared words a.holds q (text ∷ []) names (u ∷ []) → IsAlone q → Sequel q text a b st → Course words a b st
+  on_alone declared is (way.Sequel.refuses {line = line} r same ends) = way.Course.refuses (refusal.Refusal.refuses q text names u declared is r) same ends
+  on_alone declared is (way.Sequel.writes {made = made} {e = e} c told ends) =
+      way.Course.writes (record { text = text; names = names; unit = u; declared = declared; alone = is; changes = c }) told ends
+  on_alone declared is (way.Sequel.fails {made = made} {e = e} c told rose ends) =
+      way.Course.fails (record { text = text; names = names; unit = u; declared = declared; alone = is; changes = c }) told rose ends
+  on_alone declared is (way.Sequel.no_memory e p none) = way.Course.no_memory e p none
 
 pub map_length : {X Y : Type 0} (f : X → Y) (xs : List X) → length (map f xs) ≡ length xs
 map_length f [] = refl
 map_length f (x ∷ xs) = ap suc (map_length f xs)
 
-trees_long : (names : List (List ℕ)) (first count : ℕ) (texts : List (List ℕ)) (units : List SourceUnit) (new : List (List ℕ))
+pub trees_long : (names : List (List ℕ)) (first count : ℕ) (texts : List (List ℕ)) (units : List SourceUnit) (new : List (List ℕ))
     → AreTrees names first count texts units new → length units ≡ length texts
 trees_long names first count [] units new h = ap length h.0
 trees_long names first count (x ∷ xs) [] new h = absurd h
@@ -120,21 +121,32 @@ last_one xs [] x e n = e
 last_one xs (y ∷ []) x e n = absurd (omega (arith, n, ap length e))
 last_one xs (y ∷ z ∷ zs) x e n = absurd (omega (arith, n, ap length e))
 
+-- the user's files are among the files
+pub users_within : (look : Option Look) (q : Request) (texts : List (List ℕ)) (units : List SourceUnit) (names : List (List ℕ)) → AreHeld look 0 (inputs q) texts
+    → AreTrees built_in_names 0 0 texts units names → length q.users ≤ length units
+users_within look q texts units names held trees =
+    let many = trees_long built_in_names 0 0 texts units names trees in
+    let files = held_long look 0 (inputs q) texts held in
+    let both = length-append {A = List ℕ} q.users q.libs in
+    omega (arith, many, files, both)
+
 -- the text, and the tree, of the one file
 pub record IsOneFile (look : Option Look) (q : Request) (text : List ℕ) (names : List (List ℕ)) (u : SourceUnit) : Type 0 where
   pub held : AreHeld look 0 (inputs q) (text ∷ [])
   pub trees : AreTrees built_in_names 0 0 (text ∷ []) (u ∷ []) names
+  pub declared : AreDeclared (length q.users) names (u ∷ [])
 
 pub one_file : {X : Type 0} (view : X → SourceUnit) (look : Option Look) (q : Request) (texts : List (List ℕ)) (text : List ℕ) (names : List (List ℕ)) (units rest : List X) (x : X)
-    → AreHeld look 0 (inputs q) texts → AreTrees built_in_names 0 0 texts (map view units) names → length texts ≡ 1 → text ≡ get_or texts 0 text → units ≡ rest ++ x ∷ []
+    → AreHeld look 0 (inputs q) texts → AreTrees built_in_names 0 0 texts (map view units) names → AreDeclared (length q.users) names (map view units) → length texts ≡ 1 → text ≡ get_or texts 0 text → units ≡ rest ++ x ∷ []
     → IsOneFile look q text names (view x)
-one_file view look q texts text names units rest x held trees one is last =
+one_file view look q texts text names units rest x held trees declared one is last =
     let alone_text : texts ≡ text ∷ [] = only_one texts text one is in
     let many : length units ≡ 1 = sym (map_length view units) ∙ trees_long built_in_names 0 0 texts (map view units) names trees ∙ one in
     let alone_unit : units ≡ x ∷ [] = last_one units rest x last many in
     record {
       held = subst (λ (xs : List (List ℕ)). AreHeld look 0 (inputs q) xs) alone_text held;
       trees = subst (λ (xs : List (List ℕ)). AreTrees built_in_names 0 0 xs (view x ∷ []) names) alone_text (subst (λ us. AreTrees built_in_names 0 0 texts (map view us) names) alone_unit trees);
+      declared = subst (λ us. AreDeclared (length q.users) names (map view us)) alone_unit declared;
     }
 
 pub one_small : (look : Option Look) (before : ℕ) (names : List (List ℕ)) (text : List ℕ) → AreHeld look before names (text ∷ []) → length text ≤ 1048576
@@ -150,7 +162,7 @@ module _ (words : List (List ℕ)) (q : Request) (text : List ℕ) (names : List
   pub on_one : AsksFew words q → IsOneFile a.holds q text names u → Sequel q text a b st → Course words a b st
   on_one asks is h =
       let input = one_input a.holds 0 (inputs q) text is.held in
-      on_alone words q text names u a b st (record { read = record { asks = asks; held = is.held }; trees = is.trees }) (alone words q input.0 asks.asks input.1) h
+      on_alone words q text names u a b st (record { parsed = record { read = record { asks = asks; held = is.held }; trees = is.trees }; declared = is.declared }) (alone words q input.0 asks.asks input.1) h
 
 -- TYPE is an identifier
 pub identifier_of : (words : List (List ℕ)) (q : Request) → Asks words q → IsIdentifier q.ty
@@ -242,7 +254,7 @@ module _ (words : List (List ℕ)) (a m b : Moment) (st : Status) (after : IsAft
     text = h.text;
     names = h.names;
     unit = h.unit;
-    parsed = subst (λ (look : Option Look). HasParsed words look q (h.text ∷ []) h.names (h.unit ∷ [])) after.holds h.parsed;
+    declared = subst (λ (look : Option Look). HasDeclared words look q (h.text ∷ []) h.names (h.unit ∷ [])) after.holds h.declared;
     alone = h.alone;
     changes = h.changes;
   }

@@ -56,7 +56,7 @@ breaks_among names first count (x ∷ xs) zero fault h = (x, refl, breaks_within
 breaks_among names first count (x ∷ xs) (suc k) fault (ts, allowed, u, is, more) =
     breaks_among (interned x ts names) (first + size.unit u) (count + length ts) xs k fault more
 
-small_at : (texts : List (List ℕ)) (k : ℕ) (x : List ℕ) → AreSmall texts → slice_get texts k ≡ Some x → length x ≤ 1048576
+pub small_at : (texts : List (List ℕ)) (k : ℕ) (x : List ℕ) → AreSmall texts → slice_get texts k ≡ Some x → length x ≤ 1048576
 small_at [] k x h e = absurd (cc)
 small_at (y ∷ ys) zero x (room, more) e = let same : y ≡ x = cc in subst (λ (z : List ℕ). length z ≤ 1048576) same room
 small_at (y ∷ ys) (suc k) x (room, more) e = small_at ys k x more e

@@ -5,9 +5,14 @@ pub mod Courses
 pub mod Deciding
 pub mod Excluding
 pub mod Faults
+pub mod Judging
+pub mod OneDeclared
 pub mod OneOutcome
 pub mod OneParse
 pub mod OneReading
 pub mod OneSense
 pub mod OneVerdict
+pub mod Places
+pub mod SameMembers
 pub mod Smalls
+pub mod Tables

@@ -1,9 +1,10 @@
 -- Words and files whose contents are told come to one outcome, but for the place of G1.
 use Rattle.std.proofs.Common.{◌≡◌, ◌≢◌, ℕ, ◌<◌, ◌⊎◌, inl, inr, List, [], ◌∷◌, ◌++◌, length, Some, slice_get, refl, sym, ◌∙◌, ap, subst, arith, codes}
 use Rattle.std.specs.Fmt.{decimal}
-use Rattle.java_tree.specs.Names.{built_in_names}
+use Rattle.java_tree.specs.Names.{IsTable, built_in_names}
 use Rattle.java_tree.proofs.Tables.{built_in_table}
 use Rattle.java_tree.specs.Plain.{SourceUnit}
+use Rattle.java_tree.specs.declared.fault.Broken.{Broken}
 use Rattle.tool_files.specs.Told.{Look}
 use Rattle.edit_writer.specs.Places.{place_at}
 use Rattle.edit_writer.specs.declared.edits.Edit.{Edit}
@@ -13,13 +14,15 @@ use Rattle.command_words.specs.Rules.{IsLowest}
 use Rattle.report_text.specs.Report.{refused, refused_at}
 use Rattle.refactor_app.specs.Words.{Request, inputs, IsAlone, Asks, AskOther}
 use Rattle.refactor_app.specs.Verdicts.{Refuses, Changes}
+use Rattle.refactor_app.specs.Declarations.{AreDeclared, IsBroken, broken_line}
 use Rattle.refactor_app.specs.Refusals.{most_files, AsksFew, HasRead, IsAt, Tells, Refusal}
 use Rattle.refactor_app.specs.Refusals as refusal
 use Rattle.refactor_app.specs.Outcomes.{Outcome, Misused, Absent, Refused, Changed, ComesTo, IsTreeless, AreTreeless}
 use Rattle.refactor_app.proofs.Asking.{one_request}
 use Rattle.refactor_app.proofs.OneSense.{lowest_or_asks, lowest_or_other, other_or_asks, one_lowest}
 use Rattle.refactor_app.proofs.OneReading.{one_held, held_or_stops, one_stop}
-use Rattle.refactor_app.proofs.OneParse.{IsNoTree, AreAlike, trees_or_breaks, one_break}
+use Rattle.refactor_app.proofs.OneParse.{IsNoTree, AreAlike, trees_or_breaks, one_break, one_trees, trees_table}
+use Rattle.refactor_app.proofs.OneDeclared.{one_rule, broken_or_declared}
 use Rattle.refactor_app.proofs.OneVerdict.{one_refusal, not_both, one_change}
 
 -- ---- what each way of a request comes to
@@ -36,15 +39,20 @@ data Alone (q : Request) (text : List ℕ) : Outcome → Type 0 where
   refuses : {line : List ℕ} → Refuses q text line → Alone q text (Refused line)
   changes : {made : List ℕ} {e : Edit} → Changes q text made e → Alone q text (Changed q made e)
 
--- of files with trees
+-- of files whose declarations break no rule
 abbrev Judged : Request → List (List ℕ) → Outcome → Type 0
 Judged q texts o = ((IsAlone q → ⊥) × (o ≡ Refused (refused (codes "N2")))) ⊎ (IsAlone q × (text : List ℕ) × (texts ≡ text ∷ []) × Alone q text o)
+
+-- of files with trees
+abbrev Sound : Request → List (List ℕ) → List (List ℕ) → List SourceUnit → Outcome → Type 0
+Sound q texts names units o =
+    ((b : Broken) × IsBroken (length q.users) names units b × (o ≡ Refused (broken_line q texts units b))) ⊎ (AreDeclared (length q.users) names units × Judged q texts o)
 
 -- of files with these texts
 abbrev Parsed : Request → List (List ℕ) → Outcome → Type 0
 Parsed q texts o =
     ((k : ℕ) × (f : Fault) × (line : List ℕ) × BreaksAt built_in_names 0 0 texts k f × Tells q texts k f line × (o ≡ Refused line))
-    ⊎ ((units : List SourceUnit) × (names : List (List ℕ)) × AreTrees built_in_names 0 0 texts units names × Judged q texts o)
+    ⊎ ((units : List SourceUnit) × (names : List (List ℕ)) × AreTrees built_in_names 0 0 texts units names × Sound q texts names units o)
 
 -- of no more files than there may be
 abbrev Read : Look → Request → Outcome → Type 0
@@ -66,17 +74,34 @@ by_refusal words look line (refusal.Refusal.l1 q h many) = asks q h (inl (many, 
 by_refusal words look line (refusal.Refusal.l2 q k few stops) = asks q few.asks (inr (few, inl (k, TooLarge, stops, refl)))
 by_refusal words look line (refusal.Refusal.l3 q k few stops) = asks q few.asks (inr (few, inl (k, TooMuch, stops, refl)))
 by_refusal words look line (refusal.Refusal.broken q texts k f read breaks tells) = asks q read.asks.asks (inr (read.asks, inr (texts, read.held, inl (k, f, line, breaks, tells, refl))))
-by_refusal words look line (refusal.Refusal.n2 q texts names units parsed many) =
-    asks q parsed.read.asks.asks (inr (parsed.read.asks, inr (texts, parsed.read.held, inr (units, names, parsed.trees, inl (many, refl)))))
-by_refusal words look line (refusal.Refusal.refuses q text names u parsed is r) =
-    asks q parsed.read.asks.asks (inr (parsed.read.asks, inr (text ∷ [], parsed.read.held, inr (u ∷ [], names, parsed.trees, inr (is, text, refl, refuses r)))))
+by_refusal words look line (refusal.Refusal.declared q texts names units b parsed broken) =
+    asks q parsed.read.asks.asks (inr (parsed.read.asks, inr (texts, parsed.read.held, inr (units, names, parsed.trees, inl (b, broken, refl)))))
+by_refusal words look line (refusal.Refusal.n2 q texts names units h many) =
+    let parsed = h.parsed in
+    asks q parsed.read.asks.asks (inr (parsed.read.asks, inr (texts, parsed.read.held, inr (units, names, parsed.trees, inr (h.declared, inl (many, refl))))))
+by_refusal words look line (refusal.Refusal.refuses q text names u h is r) =
+    let parsed = h.parsed in
+    asks q parsed.read.asks.asks (inr (parsed.read.asks, inr (text ∷ [], parsed.read.held, inr (u ∷ [], names, parsed.trees, inr (h.declared, inr (is, text, refl, refuses r))))))
 
 sense : (words : List (List ℕ)) (look : Look) (o : Outcome) → ComesTo words (Some look) o → Sense words look o
 sense words look (Misused rule) h = misuse rule h refl
 sense words look (Absent name) h = asks h.q h.asks.asks (inr (h.asks, inl (h.file, Missing, h.absent, (name, h.named, refl))))
 sense words look (Refused line) h = by_refusal words look line h
 sense words look (Changed q made e) h =
-    asks q h.parsed.read.asks.asks (inr (h.parsed.read.asks, inr (h.text ∷ [], h.parsed.read.held, inr (h.unit ∷ [], h.names, h.parsed.trees, inr (h.alone, h.text, refl, changes h.changes)))))
+    let parsed = h.declared.parsed in
+    asks q parsed.read.asks.asks (inr (
+      parsed.read.asks,
+      inr (
+        h.text ∷ [],
+        parsed.read.held,
+        inr (
+          h.unit ∷ [],
+          h.names,
+          parsed.trees,
+          inr (h.declared.declared, inr (h.alone, h.text, refl, changes h.changes)),
+        ),
+      ),
+    ))
 
 -- ---- each comes to one
 
@@ -106,6 +131,13 @@ one_judged q texts a b (inr (one, x, are, h)) (inr (also, y, so, g)) =
     let both : y ∷ [] ≡ x ∷ [] = sym so ∙ are in
     let same : y ≡ x = cc in
     one_alone q x a b h (subst (λ (text : List ℕ). Alone q text b) same g)
+
+one_sound : (q : Request) (texts names : List (List ℕ)) (units : List SourceUnit) (a b : Outcome) → IsTable names → Sound q texts names units a → Sound q texts names units b → a ≡ b
+one_sound q texts names units a b table (inl (x, broken, is)) (inl (y, broken', so)) =
+    is ∙ ap (λ (b : Broken). Refused (broken_line q texts units b)) (one_rule (length q.users) names units table x y broken broken') ∙ sym so
+one_sound q texts names units a b table (inl (x, broken, is)) (inr (declared, h)) = absurd (broken_or_declared (length q.users) names units table x broken declared)
+one_sound q texts names units a b table (inr (declared, h)) (inl (x, broken, is)) = absurd (broken_or_declared (length q.users) names units table x broken declared)
+one_sound q texts names units a b table (inr (declared, h)) (inr (also, g)) = one_judged q texts a b h g
 
 one_at : (rule : List ℕ) (q : Request) (texts : List (List ℕ)) (k at : ℕ) (a b : List ℕ) → IsAt rule q texts k at a → IsAt rule q texts k at b → a ≡ b
 one_at rule q texts k at a b x y =
@@ -148,7 +180,10 @@ module _ (words : List (List ℕ)) (look : Look) where
       subst (λ (o : Outcome). AreOne o b) (sym is) (subst (λ (o : Outcome). AreOne (Refused x) o) (sym so) (one_broken q texts k f g x y read first breaks' same.1 told tells'))
   one_parsed q texts a b read (inl (j, f, x, breaks, tells, is)) (inr (units, names, trees, h)) = absurd (trees_or_breaks built_in_names 0 0 texts units names j f built_in_table trees breaks)
   one_parsed q texts a b read (inr (units, names, trees, h)) (inl (j, f, x, breaks, tells, is)) = absurd (trees_or_breaks built_in_names 0 0 texts units names j f built_in_table trees breaks)
-  one_parsed q texts a b read (inr (units, names, trees, h)) (inr (units', names', trees', g)) = inl (one_judged q texts a b h g)
+  one_parsed q texts a b read (inr (units, names, trees, h)) (inr (units', names', trees', g)) =
+      let same = one_trees built_in_names 0 0 texts units' units names' names built_in_table trees' trees in
+      let sound = subst (λ (us : List SourceUnit). Sound q texts names us b) same.0 (subst (λ (ns : List (List ℕ)). Sound q texts ns units' b) same.1 g) in
+      inl (one_sound q texts names units a b (trees_table built_in_names 0 0 texts units names built_in_table trees) h sound)
 
   one_read : (q : Request) (a b : Outcome) → AsksFew words q → Read look q a → Read look q b → AreOne a b
   one_read q a b few (inl (j, s, stops, tells)) (inl (k, t, stops', tells')) =

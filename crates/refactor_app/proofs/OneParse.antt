@@ -121,3 +121,24 @@ one_break names first count (x ∷ xs) (suc j) (suc k) f g table (ts, allowed, u
     let rest = one_break (interned x ts names) (first + size.unit u) (count + length ts) xs j k f g (interned_table x ts names table) breaks
     (behind names first count x (λ ns n m. BreaksAt ns n m xs k g) ts vs u v table allowed allowed' is so breaks') in
     (ap suc rest.0, rest.1)
+
+-- texts have one list of trees, and one table of names
+pub one_trees : (names : List (List ℕ)) (first count : ℕ) (texts : List (List ℕ)) (us vs : List SourceUnit) (new now : List (List ℕ)) → IsTable names
+    → AreTrees names first count texts us new → AreTrees names first count texts vs now → (us ≡ vs) × (new ≡ now)
+one_trees names first count [] us vs new now table a b = (a.0 ∙ sym b.0, a.1 ∙ sym b.1)
+one_trees names first count (x ∷ xs) [] vs new now table a b = absurd a
+one_trees names first count (x ∷ xs) (u ∷ us) [] new now table a b = absurd b
+one_trees names first count (x ∷ xs) (u ∷ us) (v ∷ vs) new now table (ts, allowed, is, more) (rs, allowed', so, also) =
+    let tokens = one_tokens x rs ts allowed'.lexes allowed.lexes in
+    let there : IsUnit x (interned x ts names) ts first v = subst (λ (rs : List Token). IsUnit x (interned x rs names) rs first v) tokens so in
+    let tree = one_unit x (interned x ts names) ts first u v (interned_table x ts names table) is there in
+    let rest = one_trees (interned x ts names) (first + size.unit u) (count + length ts) xs us vs new now (interned_table x ts names table) more
+    (behind names first count x (λ ns n m. AreTrees ns n m xs vs now) ts rs u v table allowed allowed' is so also) in
+    (ap (λ (w : SourceUnit). w ∷ us) tree ∙ ap (λ (ws : List SourceUnit). v ∷ ws) rest.0, rest.1)
+
+pub trees_table : (names : List (List ℕ)) (first count : ℕ) (texts : List (List ℕ)) (units : List SourceUnit) (new : List (List ℕ)) → IsTable names
+    → AreTrees names first count texts units new → IsTable new
+trees_table names first count [] units new table trees = subst IsTable (sym trees.1) table
+trees_table names first count (x ∷ xs) [] new table trees = absurd trees
+trees_table names first count (x ∷ xs) (u ∷ us) new table (ts, allowed, is, more) =
+    trees_table (interned x ts names) (first + size.unit u) (count + length ts) xs us new (interned_table x ts names table) more

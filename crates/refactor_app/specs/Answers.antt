@@ -10,14 +10,14 @@ use Rattle.refactor_app.specs.declared.status.Status.TheVariants as s
 use Rattle.refactor_app.specs.Words.{Request, inputs, IsAlone, out_name}
 use Rattle.report_text.specs.Report.{usage, edit_report, missing, read_fault, write_fault}
 use Rattle.refactor_app.specs.Verdicts.{Changes}
-use Rattle.refactor_app.specs.Refusals.{AsksFew, HasParsed, Refusal}
+use Rattle.refactor_app.specs.Refusals.{AsksFew, HasDeclared, Refusal}
 
 -- the change of a file, its only one, that the words ask for
 pub record IsChange (words : List (List ℕ)) (old : Option Look) (q : Request) (made : List ℕ) (edit : Edit) : Type 0 where
   pub text : List ℕ
   pub names : List (List ℕ)
   pub unit : SourceUnit
-  pub parsed : HasParsed words old q (text ∷ []) names (unit ∷ [])
+  pub declared : HasDeclared words old q (text ∷ []) names (unit ∷ [])
   pub alone : IsAlone q
   pub changes : Changes q text made edit
 

@@ -4,6 +4,8 @@ pub mod Program
 pub mod Verdicts
 pub mod Decided
 pub mod Small
+pub mod Declarations
+pub mod Judged
 pub mod Refusals
 pub mod Stops
 pub mod Answers

@@ -3,6 +3,7 @@ use Rattle.std.specs.Prelude.{◌≡◌, ◌<◌, ◌≤◌, ℕ, List, [], ◌�
 use Rattle.std.specs.Fmt.{decimal}
 use Rattle.java_tree.specs.Names.{built_in_names}
 use Rattle.java_tree.specs.Plain.{SourceUnit}
+use Rattle.java_tree.specs.declared.fault.Broken.{Broken}
 use Rattle.tool_files.specs.Told.{Look}
 use Rattle.edit_writer.specs.Places.{place_at}
 use Rattle.source_files.specs.Held.{AreHeld, StopsAt, TooLarge, TooMuch}
@@ -10,6 +11,7 @@ use Rattle.source_files.specs.Trees.{AreTrees, BreaksAt, Fault, Lexical, Tokens,
 use Rattle.report_text.specs.Report.{refused, refused_at}
 use Rattle.refactor_app.specs.Words.{Request, inputs, IsAlone, Asks, AskOther}
 use Rattle.refactor_app.specs.Verdicts.{Refuses}
+use Rattle.refactor_app.specs.Declarations.{AreDeclared, IsBroken, broken_line}
 
 abbrev pub most_files : ℕ
 most_files = 256
@@ -29,6 +31,11 @@ pub record HasParsed (words : List (List ℕ)) (look : Option Look) (q : Request
   pub read : HasRead words look q texts
   pub trees : AreTrees built_in_names 0 0 texts units names
 
+-- whose declarations break no rule
+pub record HasDeclared (words : List (List ℕ)) (look : Option Look) (q : Request) (texts : List (List ℕ)) (names : List (List ℕ)) (units : List SourceUnit) : Type 0 where
+  pub parsed : HasParsed words look q texts names units
+  pub declared : AreDeclared (length q.users) names units
+
 -- a refusal at a byte of the file with this number
 pub record IsAt (rule : List ℕ) (q : Request) (texts : List (List ℕ)) (k at : ℕ) (line : List ℕ) : Type 0 where
   pub name : List ℕ
@@ -43,7 +50,7 @@ Tells q texts k Tokens line = line ≡ refused (codes "L4")
 Tells q texts k (LeftOut rule at) line = IsAt (codes "S" ++ decimal rule) q texts k at line
 Tells q texts k (NoTree at) line = IsAt (codes "G1") q texts k at line
 
--- The rules in their order: N1, L1, the sizes of the files, their texts, and then what stands against a request on one file.
+-- The rules in their order: N1, L1, the sizes of the files, their texts, the declarations of the program, and then what stands against a request on one file.
 pub data Refusal (words : List (List ℕ)) (look : Option Look) : List ℕ → Type 0 where
   n1 : AskOther words → Refusal words look (refused (codes "N1"))
   l1 : (q : Request) → Asks words q → most_files < length (inputs q) → Refusal words look (refused (codes "L1"))
@@ -51,7 +58,9 @@ pub data Refusal (words : List (List ℕ)) (look : Option Look) : List ℕ → T
   l3 : (q : Request) (k : ℕ) → AsksFew words q → StopsAt look 0 (inputs q) k TooMuch → Refusal words look (refused (codes "L3"))
   broken : (q : Request) (texts : List (List ℕ)) (k : ℕ) (fault : Fault) {line : List ℕ} → HasRead words look q texts → BreaksAt built_in_names 0 0 texts k fault
       → Tells q texts k fault line → Refusal words look line
-  n2 : (q : Request) (texts names : List (List ℕ)) (units : List SourceUnit) → HasParsed words look q texts names units → (IsAlone q → ⊥)
+  declared : (q : Request) (texts names : List (List ℕ)) (units : List SourceUnit) (b : Broken) → HasParsed words look q texts names units → IsBroken (length q.users) names units b
+      → Refusal words look (broken_line q texts units b)
+  n2 : (q : Request) (texts names : List (List ℕ)) (units : List SourceUnit) → HasDeclared words look q texts names units → (IsAlone q → ⊥)
       → Refusal words look (refused (codes "N2"))
-  refuses : (q : Request) (text : List ℕ) (names : List (List ℕ)) (u : SourceUnit) {line : List ℕ} → HasParsed words look q (text ∷ []) names (u ∷ []) → IsAlone q
+  refuses : (q : Request) (text : List ℕ) (names : List (List ℕ)) (u : SourceUnit) {line : List ℕ} → HasDeclared words look q (text ∷ []) names (u ∷ []) → IsAlone q
       → Refuses q text line → Refusal words look line

@@ -1,27 +1,33 @@
 //! The top call.
 
-ghost use Rattle.std.specs.Prelude.{◌≡◌, ◌≤◌, ℕ, List, length, map, Ok, IfOk, OnErr};
+ghost use Rattle.std.specs.Prelude.{◌≡◌, ◌≤◌, ℕ, List, length, map, take, Ok, IfOk, OnErr};
 ghost use Rattle.std.specs.String.{string_bytes};
+ghost use Rattle.java_tree.specs.Names.{IsTable, built_in_names};
+ghost use Rattle.java_tree.specs.View.{unit_plain};
 ghost use Rattle.command_words.specs.Names.{IsIdentifier};
 ghost use Rattle.tool_files.specs.Told.{Rose};
 ghost use Rattle.source_files.specs.Held.{AreHeld};
+ghost use Rattle.source_files.specs.Trees.{AreTrees};
 ghost use Rattle.source_files.specs.Answers.{HasParsed};
 ghost use Rattle.refactor_app.specs.Words.{inputs, Asks};
 ghost use Rattle.refactor_app.specs.Asked.{request_of};
 ghost use Rattle.refactor_app.specs.Answers as answers;
 ghost use Rattle.refactor_app.specs.Answers.{IsDone, IsRefused, IsUsage, IsWriteFault, IsOutFault, Ends};
 ghost use Rattle.refactor_app.specs.Small.{HasUnit};
+ghost use Rattle.refactor_app.specs.Declarations.{AreDeclared};
 ghost use Rattle.refactor_app.specs.Refusals.{AsksFew};
 ghost use Rattle.refactor_app.specs.Course.{Moment, Course, Finishes, Sequel};
 ghost use Rattle.refactor_app.specs.Stops.{IsNamed, Stops};
 
 use crate::asked::{Asked, change_asked, inputs_of};
 use crate::decide::{Changed, Verdict, decide};
-use crate::lines::stop_line;
+use crate::declarations::judge_declarations;
+use crate::first_names::first_of;
+use crate::lines::{broken_line, stop_line};
 use crate::status::Status;
 use command_words::{Reading, read_words};
 use java_tree::tree::SourceUnit;
-use java_tree::{Items, Names, NoMemory};
+use java_tree::{Fault, Items, Names, NoMemory};
 use report_text::{missing, read_fault, usage};
 use source_files::{Parsed, ReadStop, TreeStop, parse_files, read_files};
 use std::alloc::Global;
@@ -85,18 +91,25 @@ fn answer<F: Files, K: Sink>(
     }
 }
 
-// What becomes of a request on files with these texts and trees. A small program is one file.
-fn on_trees<F: Files, K: Sink>(
+// What becomes of a request on files with these texts and trees, whose declarations break no rule. A small program is one file. The first `count` names are
+// those of the texts.
+fn on_declared<F: Files, K: Sink>(
     alloc: Global,
     q: &Asked<'_>,
     texts: &[Items<u8>],
-    parsed: Parsed,
+    table: &Names,
+    count: u32,
+    units: Items<SourceUnit>,
     files: &mut F,
     out: &mut K,
 ) -> Status
     requires word { IsIdentifier q.now.ty.now }
     requires held { AreHeld (F.holds files.old) 0 (inputs (request_of q.now)) texts.now }
-    requires trees { HasParsed texts.now (Ok parsed) }
+    requires table { IsTable table.now }
+    requires within { count ≤ length table.now }
+    requires built_in { 16 ≤ count }
+    requires trees { AreTrees built_in_names 0 0 texts.now (map unit_plain units) (take count table.now) }
+    requires declared { AreDeclared (length (request_of q.now).users) (take count table.now) (map unit_plain units) }
     ensures { let a : Moment = record { holds = F.holds files.old; misses = F.misses files.old; read_faults = F.read_faults files.old; write_faults = F.write_faults files.old; put = K.written out.old; faults = K.faults out.old } in
         let b : Moment = record { holds = F.holds files.new; misses = F.misses files.new; read_faults = F.read_faults files.new; write_faults = F.write_faults files.new; put = K.written out.new; faults = K.faults out.new } in
         (words : List (List ℕ)) → AsksFew words (request_of q.now) → Course words a b result }
@@ -104,10 +117,42 @@ fn on_trees<F: Files, K: Sink>(
     if texts.len() != 1 {
         return put(out, b"refused N2 -\n", Status::Refused);
     }
-    let Parsed { names, units } = parsed;
+    let Ok(names) = first_of(alloc, table, count) else {
+        return Status::NoMemory;
+    };
     match units.into_vec().pop() {
         Some(unit) => answer(alloc, q, texts[0].as_slice(), names, unit, files, out),
         None => Status::NoMemory,
+    }
+}
+
+// What becomes of a request on files with these texts and trees.
+fn on_trees<F: Files, K: Sink>(
+    alloc: Global,
+    q: &Asked<'_>,
+    file_names: &[String],
+    texts: &[Items<u8>],
+    parsed: Parsed,
+    files: &mut F,
+    out: &mut K,
+) -> Status
+    requires word { IsIdentifier q.now.ty.now }
+    requires names { map string_bytes file_names.now ≡ inputs (request_of q.now) }
+    requires held { AreHeld (F.holds files.old) 0 (inputs (request_of q.now)) texts.now }
+    requires trees { HasParsed texts.now (Ok parsed) }
+    ensures { let a : Moment = record { holds = F.holds files.old; misses = F.misses files.old; read_faults = F.read_faults files.old; write_faults = F.write_faults files.old; put = K.written out.old; faults = K.faults out.old } in
+        let b : Moment = record { holds = F.holds files.new; misses = F.misses files.new; read_faults = F.read_faults files.new; write_faults = F.write_faults files.new; put = K.written out.new; faults = K.faults out.new } in
+        (words : List (List ℕ)) → AsksFew words (request_of q.now) → Course words a b result }
+{
+    let Parsed { mut names, units } = parsed;
+    let count = names.len() as u32;
+    match judge_declarations(alloc, q.users.len(), units.as_slice(), &mut names) {
+        Ok(()) => on_declared(alloc, q, texts, &names, count, units, files, out),
+        Err(Fault::Broken(broken)) => {
+            let line = broken_line(alloc, file_names, texts, units.as_slice(), broken);
+            put_made(out, line, Status::Refused)
+        }
+        Err(Fault::NoMemory) => Status::NoMemory,
     }
 }
 
@@ -129,7 +174,7 @@ fn on_texts<F: Files, K: Sink>(
         (words : List (List ℕ)) → AsksFew words (request_of q.now) → Course words a b result }
 {
     match parse_files(alloc, texts) {
-        Ok(parsed) => on_trees(alloc, q, texts, parsed, files, out),
+        Ok(parsed) => on_trees(alloc, q, names, texts, parsed, files, out),
         Err(stop) => put_made(out, stop_line(alloc, names, texts, stop), Status::Refused),
     }
 }

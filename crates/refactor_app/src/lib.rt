@@ -4,6 +4,8 @@
 mod asked;
 mod call;
 mod decide;
+mod declarations;
+mod first_names;
 pub mod laws;
 mod lines;
 mod program;
@@ -11,6 +13,3 @@ mod status;
 
 pub use call::refactor;
 pub use status::Status;
-
-#[cfg(test)]
-mod tests;

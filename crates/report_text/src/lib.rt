@@ -4,6 +4,3 @@
 mod report;
 
 pub use report::{edit_report, missing, read_fault, refused_at, rule_name, usage, write_fault};
-
-#[cfg(test)]
-mod tests;

@@ -7,9 +7,6 @@ ghost use Rattle.rule_order.specs.Noted as spec;
 
 use java_tree::tree::Node;
 
-#[cfg(test)]
-mod tests;
-
 /// A broken rule: the number of the node at which it is broken, and the number behind the rule's letter.
 #[derive(Clone, Copy, Debug, PartialEq, Eq)]
 pub struct Breach {

@@ -2,3 +2,5 @@ pub mod Fulls
 pub mod Bits
 pub mod Arguments
 pub mod Tells
+pub mod Overs
+pub mod Belows

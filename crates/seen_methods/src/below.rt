@@ -3,7 +3,6 @@
 ghost use Rattle.std.specs.Prelude.{◌≡◌, List, ◌↔◌, IsTrue, IfSome, IfNone};
 ghost use Rattle.class_world.specs.Sound.{IsSet, IsSound};
 ghost use Rattle.class_world.specs.Signatures.{IsMethod, IsSeenWith};
-ghost use Rattle.class_world.specs.Overriding.{IsDeclaredBelow};
 ghost use Rattle.class_world.specs.declared.world.JavaType.{JavaType};
 ghost use Rattle.class_world.specs.declared.world.MethodInfo as infos;
 ghost use Rattle.seen_methods.specs.Closed.{IsSeen};
@@ -53,17 +52,6 @@ pub(crate) fn is_seen(w: &World, c: u32, m: u32) -> bool
 {
     match method_of(w, m) {
         Some(info) => is_above(w, c, info.owner),
-        None => false,
-    }
-}
-
-/// Whether the type that declares the method `m` is the one that declares `k`, or below it. Takes no memory, and a look at one bit.
-pub fn is_declared_below(w: &World, m: u32, k: u32) -> bool
-    requires { IsSound w.now }
-    ensures { IsTrue result ↔ IsDeclaredBelow w.now m k }
-{
-    match method_of(w, m) {
-        Some(info) => is_seen(w, info.owner, k),
         None => false,
     }
 }

@@ -5,12 +5,10 @@ mod agree;
 mod below;
 mod closed;
 mod puts;
+mod scopes;
 mod seen;
-#[cfg(test)]
-mod tests;
-#[cfg(test)]
-mod worlds;
 
 pub use agree::{agree_below, have_one_signature};
-pub use below::{is_declared_below, method_of};
+pub use below::method_of;
+pub use scopes::{has_closed_params, is_scoped};
 pub use seen::{seen_params, seen_result};

@@ -4,8 +4,6 @@
 ghost use Rattle.std.specs.Prelude.{◌≡◌, ◌==◌, ℕ, ◌<◌, None, if◌then◌else◌, IfOk};
 ghost use Rattle.shared_maps.specs.Maps.{AreEntries, IsMap, KeepsMaps, value_in};
 
-#[cfg(test)]
-mod tests;
 mod trees;
 
 use java_tree::{Items, NoMemory};

@@ -5,7 +5,5 @@ pub mod laws;
 mod shape;
 mod small;
 mod spaces;
-#[cfg(test)]
-mod tests;
 
 pub use small::is_small;

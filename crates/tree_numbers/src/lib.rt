@@ -4,8 +4,6 @@
 mod exprs;
 mod laws;
 mod stmts;
-#[cfg(test)]
-mod tests;
 mod types;
 mod vars;
 

@@ -8,8 +8,6 @@ mod known;
 mod packages;
 mod rules;
 mod table;
-#[cfg(test)]
-mod tests;
 
 pub use known::JavaNames;
 pub use rules::first_name_breach;

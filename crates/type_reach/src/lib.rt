@@ -5,8 +5,6 @@ mod cycles;
 mod marked;
 mod search;
 mod sources;
-#[cfg(test)]
-mod tests;
 
 pub use cycles::{first_on_cycle, on_cycles};
 use java_tree::Items;

@@ -5,8 +5,6 @@ mod decls;
 mod laws;
 mod members;
 mod parts;
-#[cfg(test)]
-mod tests;
 
 pub use decls::number_unit;
 pub use laws::{as_many_unit_nodes, as_many_unit_tokens};

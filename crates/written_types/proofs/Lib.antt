@@ -4,4 +4,3 @@ pub mod Heads
 pub mod Deciding
 pub mod Finding
 pub mod Typing
-pub mod Few

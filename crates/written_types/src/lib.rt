@@ -5,8 +5,6 @@ mod breaks;
 pub mod laws;
 mod read;
 mod scope;
-#[cfg(test)]
-mod tests;
 
 pub use breaks::first_ill_named;
 pub use read::read_type;

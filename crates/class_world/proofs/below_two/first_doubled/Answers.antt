@@ -1,13 +1,20 @@
 use Rattle.std.proofs.Common.{sym, subst}
 use Rattle.class_world.specs.Climbs.{FlagBases}
-use Rattle.class_world.proofs.Singles.{not_two}
+use Rattle.class_world.specs.Sorts.{IsSorted}
+use Rattle.class_world.specs.Meets.{MarkDoubled}
 use Rattle.class_world.proofs.below_two.first_doubled.Goals as goal
 
-pub are_single-requires-clause-flags : goal.are_single-requires-clause-flags
-are_single-requires-clause-flags c = subst (FlagBases c.args.w.now) (sym c.as_slice.ensures.value) c.in_ok-flags.ensures
-
-pub returns-then-branch-clause-first : goal.returns-then-branch-clause-first
-returns-then-branch-clause-first c = λ d h. not_two c.args.w.now d (c.in_ok-are_single.ensures c.if-branch.true d) h
-
 pub search-requires-clause-flags : goal.search-requires-clause-flags
-search-requires-clause-flags c = subst (FlagBases c.args.w.now) (sym c.as_slice-else-branch.ensures.value) c.in_ok-flags.ensures
+search-requires-clause-flags c = subst (FlagBases c.args.w.now) (sym c.as_slice-flags.ensures.value) c.in_ok-flags.ensures
+
+pub class_rows-requires-clause-flags : goal.class_rows-requires-clause-flags
+class_rows-requires-clause-flags c = subst (FlagBases c.args.w.now) (sym c.as_slice-flags.ensures.value) c.in_ok-flags.ensures
+
+pub class_rows-requires-clause-sequence : goal.class_rows-requires-clause-sequence
+class_rows-requires-clause-sequence c = subst (IsSorted c.args.w.now) c.in-Sequence.is c.in_ok-sort.ensures
+
+pub doubled_classes-requires-clause-flags : goal.doubled_classes-requires-clause-flags
+doubled_classes-requires-clause-flags c = subst (FlagBases c.args.w.now) (sym c.as_slice-flags.ensures.value) c.in_ok-flags.ensures
+
+pub first_marked-requires-clause-doubled : goal.first_marked-requires-clause-doubled
+first_marked-requires-clause-doubled c = subst (MarkDoubled c.args.w.now) (sym c.as_slice.ensures.value) c.in_ok-doubled-in-Sequence.ensures

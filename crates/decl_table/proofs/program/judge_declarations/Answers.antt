@@ -103,4 +103,4 @@ returns-in-None c =
     let clash = first_clash b j fs c.requires.bases c.in_ok-clash.clash (subst (λ w. IsFirstClash w c.in_ok-clash.clash) is c.in_ok-clash.ensures) in
     let none = subst (IsFirst (DeclarationSet b j fs)) c.in-None.is
     (first_of_both (RuleBreaches j fs (headers b.types fs) (world_of b j fs).methods) (ClashBreaches (world_of b j fs)) c.in_ok-in_rules.in_rules c.in_ok-clash.clash c.earlier.result c.earlier.ensures rules clash) in
-    tabled_declared b j fs c.in_ok-world.world c.with_table.result is none c.with_table.ensures
+    tabled_declared c.args.names.now b j fs c.in_ok-world.world c.with_table.result is none c.with_table.ensures

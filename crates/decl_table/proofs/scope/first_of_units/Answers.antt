@@ -7,23 +7,23 @@ use Rattle.type_names.specs.Known.{File}
 use Rattle.type_names.specs.Rules.{Among}
 use Rattle.type_names.specs.Tables.{files_in}
 use Rattle.type_names.proofs.Breaches.{among_file}
-use Rattle.decl_table.specs.Program.{PlainBreaches}
-use Rattle.decl_table.proofs.FileLists.{file_at, same_names}
+use Rattle.decl_table.specs.Program.{is_generic_name, PlainBreaches}
+use Rattle.decl_table.proofs.FileLists.{file_at}
 use Rattle.decl_table.proofs.scope.first_of_units.Goals as goal
 
 pub loop-at-preserved : goal.loop-at-preserved
-loop-at-preserved c = λ j fs stands named there.
-    let ts = c.args.generic.now.types.now in
+loop-at-preserved c = λ j fs stands there.
+    let ts = c.args.types.now in
     let f : File = record { unit = unit_plain c.index-units-at.result; user = c.args.user } in
     let number : c.in-Ok.file ≡ c.args.before + c.loop-at.at = search rules in
     let at : slice_get fs c.in-Ok.file ≡ Some f =
     subst (λ n. slice_get fs n ≡ Some f) (sym number) (there c.loop-at.at f (file_at c.args.user c.args.units.now c.loop-at.at c.index-units-at.result c.loop-at-test.true c.index-units-at.is)) in
     let here : IsFirst (PlainBreaches c.args.names.now j fs ts f) c.first_plain.result =
-    same_names f c.args.names.now j fs ts c.in_ok-generics.generics c.first_plain.result (c.in_ok-generics.ensures j fs f stands at named) c.first_plain.ensures in
+    c.first_plain.ensures (is_generic_name j fs ts f) (record { tells = λ n is said. said j fs f stands at }) in
     among_file (PlainBreaches c.args.names.now j fs ts) c.args.user c.args.units.now c.loop-at.at c.index-units-at.result f c.loop-at.first c.first_plain.result c.earlier-first.result
-    c.loop-at-test.true c.index-units-at.is refl (c.loop-at.invariant j fs stands named there) here c.earlier-first.ensures
+    c.loop-at-test.true c.index-units-at.is refl (c.loop-at.invariant j fs stands there) here c.earlier-first.ensures
 
 pub returns : goal.returns
-returns c = λ j fs stands named there.
-    subst (λ us. IsFirst (Among (PlainBreaches c.args.names.now j fs c.args.generic.now.types.now) (files_in c.args.user (map unit_plain us))) c.loop-at.first)
-    (take_all c.loop-at.at c.args.units.now c.loop-at-test.false) (c.loop-at.invariant j fs stands named there)
+returns c = λ j fs stands there.
+    subst (λ us. IsFirst (Among (PlainBreaches c.args.names.now j fs c.args.types.now) (files_in c.args.user (map unit_plain us))) c.loop-at.first)
+    (take_all c.loop-at.at c.args.units.now c.loop-at-test.false) (c.loop-at.invariant j fs stands there)

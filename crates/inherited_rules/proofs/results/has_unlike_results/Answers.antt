@@ -1,27 +1,25 @@
-use Rattle.std.proofs.Common.{slice_index_or, refl}
-use Rattle.inherited_rules.proofs.Named.{next_clear, has_item}
-use Rattle.inherited_rules.proofs.Pairs.{IsFirstUnlike, unlike_from, unlike_none}
+use Rattle.std.proofs.Common.{ℕ, List, inl, inr, ◌↔◌, sym, subst}
+use Rattle.std.specs.List.{Contains}
+use Rattle.std.specs.List.Sorted.{IsStrictlyIncreasing}
+use Rattle.method_ties.proofs.Firsts.{once_rising}
+use Rattle.inherited_rules.specs.Rules.{IsInherited}
+use Rattle.inherited_rules.proofs.Judged.{none_unlike, pair_of}
 use Rattle.inherited_rules.proofs.results.has_unlike_results.Goals as goal
-use Rattle.inherited_rules.proofs.results.has_unlike_results.Goals.{else-not-declares-via-then-not-declares+in_ok-has_unlike_later+else-branch, else-not-declares-via-else-not-declares}
 
-pub returns-then-branch : goal.returns-then-branch
-returns-then-branch c =
-    let ms = c.args.members.now in
-    let i = c.loop-m.m-index in (
-      λ h. unlike_from c.args.w.now c.args.c (slice_index_or ms i 0) ms c.requires.members (has_item ms i c.loop-m-test.true)
-          (λ own. let never = c.if-not-declares.ensures.1 own in cc never, c.in_ok-has_unlike_later.ensures.0 c.if-branch.true),
-      λ h. refl,
-    )
+pub returns-then-not-branch : goal.returns-then-not-branch
+returns-then-not-branch c = (
+  λ h. absurd (cc h),
+  λ h. absurd (none_unlike c.args.w.now c.args.c c.requires.sound (λ m k in_m in_k one. elim (c.in_ok-may_meet.ensures m k in_m in_k one) [ inl same ↦ same | inr met ↦ absurd (cc (met, c.if-not-branch.true)) ]) h),
+)
 
-pub loop-m-preserved : goal.loop-m-preserved
-loop-m-preserved c =
-    next_clear (IsFirstUnlike c.args.w.now c.args.c) c.args.members.now c.loop-m.m-index c.loop-m.invariant c.loop-m-test.true (λ h. elim c.else-not-declares.branch [
-      | else-not-declares-via-then-not-declares+in_ok-has_unlike_later+else-branch v ↦ let yes = v.in_ok-has_unlike_later.ensures.1 h.1 in cc (yes, v.if-branch.false)
-      | else-not-declares-via-else-not-declares v ↦ h.0 (c.declares.ensures.0 v.if-not-declares.false)
-    ])
+pub of-requires-clause-once : goal.of-requires-clause-once
+of-requires-clause-once c = once_rising c.as_slice-inherited.result.now (subst IsStrictlyIncreasing (sym c.as_slice-inherited.ensures.value) c.in_ok-inherited.ensures.ascending)
 
 pub returns : goal.returns
-returns c = (
-  λ h. absurd (cc h),
-  λ h. absurd (unlike_none c.args.w.now c.requires.sound c.args.c c.loop-m.m-index c.args.members.now c.requires.members c.loop-m.invariant c.loop-m-test.false h),
-)
+returns c =
+    let w = c.args.w.now in
+    let ms = c.as_slice-inherited.result.now in
+    let has = subst (λ (l : List ℕ). (k : ℕ) → Contains l k ↔ IsInherited w c.args.c k) (sym c.as_slice-inherited.ensures.value) c.in_ok-inherited.ensures.has in
+    let pair = pair_of w c.args.c ms has in
+    let told = c.in_ok-found.ensures in
+    (λ h. pair.0 (told.0 h), λ h. told.1 (pair.1 h))

@@ -1,7 +1,8 @@
-use Rattle.std.proofs.Common.{ap, subst, length, arith}
+use Rattle.std.proofs.Common.{sym, ap, subst, length, arith}
 use Rattle.member_methods.specs.Keys.{found_in}
+use Rattle.member_methods.specs.Own.{IsOwnerLimit}
 use Rattle.member_methods.specs.Made.{AreMade}
-use Rattle.member_methods.proofs.Whole.{all_named, all_listed}
+use Rattle.member_methods.proofs.Whole.{all_named, all_inheritable, all_listed}
 use Rattle.member_methods.proofs.MethodLists.of.Goals as goal
 
 pub all_made-requires-clause-few : goal.all_made-requires-clause-few
@@ -15,5 +16,7 @@ returns c =
     let keys = c.in_ok-keys.ensures.keys in
     record {
       named = λ t n arity. all_named c.args.w.now (found_in c.in_ok-keys.keys) keyed keys t n arity made.tables made.members.items all.limit (λ d lt. (all.each d lt).members);
+      inheritable = λ t n arity. all_inheritable c.args.w.now (found_in c.in_ok-keys.keys) keyed keys t n arity made.tables made.inheritable.items (subst (IsOwnerLimit c.args.w.now) (sym all.inheritable) all.limit)
+          (λ d lt. (all.each d (let same = all.inheritable in omega (arith, lt, same))).inheritable);
       members = λ t m. all_listed c.args.w.now (found_in c.in_ok-keys.keys) keyed keys made.tables made.members.items all.limit (λ d lt. (all.each d lt).members) t m;
     }

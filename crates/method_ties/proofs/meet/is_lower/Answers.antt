@@ -7,11 +7,11 @@ pub returns-then-is_declared_in_class : goal.returns-then-is_declared_in_class
 returns-then-is_declared_in_class c = (
   λ h. elim c.if-is_inherited.branch [
     | then-is_inherited w ↦
-        lower_told c.args.w.now c.args.c c.args.m c.args.above.now c.requires.above (c.is_inherited.ensures.0 w.if-is_inherited.true)
-        (w.is_declared_in_class.ensures.0 (sym w.value-is ∙ c.if-is_declared_in_class.true)) (c.is_of_class.ensures.0 h)
+        lower_told c.args.w.now c.args.c c.args.m c.args.supers.now c.requires.supers (c.is_inherited.ensures.0 w.if-is_inherited.true)
+        (w.is_declared_in_class.ensures.0 (sym w.value-is ∙ c.if-is_declared_in_class.true)) (c.is_of_one.ensures.0 h)
     | else-is_inherited w ↦ absurd (cc (w.value-is, c.if-is_declared_in_class.true))
   ],
-  λ h. c.is_of_class.ensures.1 (lower_parts c.args.w.now c.args.c c.args.m c.args.above.now c.requires.above h).1,
+  λ h. c.is_of_one.ensures.1 (lower_parts c.args.w.now c.args.c c.args.m c.args.supers.now c.requires.supers h).1,
 )
 
 pub returns-else-is_declared_in_class : goal.returns-else-is_declared_in_class
@@ -20,7 +20,7 @@ returns-else-is_declared_in_class c = (
   λ h. elim c.if-is_inherited.branch [
     | then-is_inherited w ↦ let yes = w.is_declared_in_class.ensures.1 h.1 in absurd (cc (yes, w.value-is, c.if-is_declared_in_class.false))
     | else-is_inherited w ↦
-        let yes = c.is_inherited.ensures.1 (lower_parts c.args.w.now c.args.c c.args.m c.args.above.now c.requires.above h).0 in
+        let yes = c.is_inherited.ensures.1 (lower_parts c.args.w.now c.args.c c.args.m c.args.supers.now c.requires.supers h).0 in
         absurd (cc (yes, w.if-is_inherited.false))
   ],
 )

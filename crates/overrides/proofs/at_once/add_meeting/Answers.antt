@@ -1,9 +1,9 @@
 use Rattle.std.proofs.Common.{◌≡◌, None, false, inl, inr}
 use Rattle.std.proofs.lemmas.Result.{on_ok_weaker}
 use Rattle.overrides.specs.Tables.{value_at}
-use Rattle.overrides.specs.declared.at_once.TheConstants.{ASKED, APART}
+use Rattle.overrides.specs.declared.at_once.TheConstants.{APART}
 use Rattle.overrides.proofs.Places.{none_there, some_there, ok_both}
-use Rattle.overrides.proofs.Edges.{tie_row, tie_key, ties_written, ties_kept, tied_here, tied_already, asked_is, apart_is, asked_ties}
+use Rattle.overrides.proofs.Edges.{tie_row, tie_key, ties_written, ties_kept, tied_here, tied_already, met_is, apart_is}
 use Rattle.overrides.proofs.at_once.add_meeting.Goals as goal
 use Rattle.overrides.proofs.at_once.add_meeting.Goals.{After-is_some, then-not-are_instance-via-then-not-are_instance, then-not-are_instance-via-else-not-are_instance+then-is_some}
 
@@ -37,19 +37,19 @@ returns-then-branch-clause-table c =
     let are = c.are_instance.ensures.0 c.if-not-are_instance.false in
     ok_both c.set.result
     (λ size written.
-    ties_written w c.args.table.now c.set.new.self p.lower p.upper ASKED c.requires.table size written
-    (asked_is w c.requires.met.0 p.lower p.upper c.requires.met.1 are (c.in_ok-agree_below.ensures.0 c.if-branch.true)))
+    ties_written w c.args.table.now c.set.new.self p.lower p.upper c.met_tie.result c.requires.table size written
+    (met_is w c.requires.met.0 p.lower p.upper c.met_tie.result c.requires.met.1 are (c.in_ok-agree_below.ensures.0 c.if-branch.true) c.met_tie.ensures.tied c.met_tie.ensures.free))
     c.set.ensures.size c.set.ensures.written
 
 pub returns-then-branch-clause-kept : goal.returns-then-branch-clause-kept
 returns-then-branch-clause-kept c =
     let p = c.args.meeting in
-    ok_both c.set.result (λ size written. ties_kept c.args.w.now c.args.table.now c.set.new.self p.lower p.upper ASKED c.requires.table size written (inl asked_ties)) c.set.ensures.size c.set.ensures.written
+    ok_both c.set.result (λ size written. ties_kept c.args.w.now c.args.table.now c.set.new.self p.lower p.upper c.met_tie.result c.requires.table size written (inl c.met_tie.ensures.tied)) c.set.ensures.size c.set.ensures.written
 
 pub returns-then-branch-clause-tied : goal.returns-then-branch-clause-tied
 returns-then-branch-clause-tied c =
     let p = c.args.meeting in
-    ok_both c.set.result (λ size written are agree. tied_here c.args.w.now c.args.table.now c.set.new.self p.lower p.upper ASKED c.requires.table size written asked_ties) c.set.ensures.size
+    ok_both c.set.result (λ size written are agree. tied_here c.args.w.now c.args.table.now c.set.new.self p.lower p.upper c.met_tie.result c.requires.table size written c.met_tie.ensures.tied) c.set.ensures.size
     c.set.ensures.written
 
 no_tie : (c : After-is_some) → c.is_some.result ≡ false → value_at c.args.table.now c.args.meeting.lower c.args.meeting.upper ≡ None

@@ -3,12 +3,6 @@ use Rattle.std.specs.List.{Contains}
 use Rattle.overrides.specs.Orders.{AreThere}
 use Rattle.overrides.proofs.order.in_order.Given as goal
 
-abbrev pub invariant-loop-c : goal.invariant-loop-c
-invariant-loop-c l = record {
-  there : AreThere l.there.items l.methods.items;
-  size : length l.there.items ≡ l.count;
-}
-
 abbrev pub invariant-loop-m : goal.invariant-loop-m
 invariant-loop-m l = record {
   there : AreThere l.there.items l.methods.items;

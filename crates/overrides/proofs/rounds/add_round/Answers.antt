@@ -1,34 +1,70 @@
-use Rattle.std.proofs.Common.{false, get_or}
-use Rattle.std.proofs.lemmas.Option.{slice_get-get_or}
-use Rattle.overrides.specs.Rounds.{IsClosedAt}
+use Rattle.std.proofs.Common.{◌<◌, ◌∙◌, Some, false, refl, get_or, length, arith}
+use Rattle.std.proofs.lemmas.Option.{slice_get-get_or, slice_get_read}
+use Rattle.std.proofs.lemmas.List.Elements.{Contains-get_or}
+use Rattle.class_world.proofs.Words.{length_set}
+use Rattle.overrides.specs.declared.links.Link.{Link}
+use Rattle.overrides.specs.Rounds.{IsFollowed}
 use Rattle.overrides.proofs.Gains.{pass_begins, pass_adds, pass_stays, pass_ends, step_none}
+use Rattle.overrides.proofs.Taken.{taken_next}
 use Rattle.overrides.proofs.rounds.add_round.Goals as goal
-use Rattle.overrides.proofs.rounds.add_round.Goals.{then-branch, else-branch}
+use Rattle.overrides.proofs.rounds.add_round.Goals.{then-more, else-more}
 
-pub loop-m-init : goal.loop-m-init
-loop-m-init c = pass_begins c.args.w.now c.args.table.now (λ t m. IsClosedAt c.args.w.now t m) c.args.order.now c.args.table.now false c.requires.table (step_none c.args.table.now)
+none : Link
+none = record { lower = 0; upper = 0; free = false }
 
-pub loop-m-preserved : goal.loop-m-preserved
-loop-m-preserved c =
+pub loop-i-init : goal.loop-i-init
+loop-i-init c = record {
+  pass = pass_begins c.args.w.now c.args.table.now (λ t (x : Link). IsFollowed c.args.w.now t x.lower x.upper) c.args.links.now c.args.table.now false c.requires.table (step_none c.args.table.now);
+  size = c.requires.size;
+  taken = c.requires.taken;
+}
+
+pub add_link-requires-clause-link : goal.add_link-requires-clause-link
+unfolding none
+add_link-requires-clause-link c = c.requires.links (get_or c.args.links.now c.loop-i.i none) (Contains-get_or c.args.links.now c.loop-i.i none c.loop-i-test.true)
+
+pub add_link-requires-clause-taken : goal.add_link-requires-clause-taken
+unfolding none
+add_link-requires-clause-taken c map e =
+    let taken = c.loop-i.taken.items in
+    let h = c.loop-i.invariant in
+    let within : c.loop-i.i < length taken = omega (arith, c.loop-i-test.true, h.size) in
+    h.taken c.loop-i.i (get_or c.args.links.now c.loop-i.i none) c.index.result.now (slice_get-get_or c.args.links.now c.loop-i.i none c.loop-i-test.true)
+    (slice_get_read taken (length taken) c.loop-i.i c.index.result.now refl within c.index.ensures) map e
+
+pub loop-i-preserved : goal.loop-i-preserved
+unfolding none
+loop-i-preserved c =
     let w = c.args.w.now in
-    let order = c.args.order.now in
-    let i = c.loop-m.m-index in
-    let at = slice_get-get_or order i 0 c.loop-m-test.true in
-    let added = c.in_ok-add_method.ensures in
-    elim c.if-branch.branch [
-      | then-branch v ↦
-          pass_adds w c.args.table.now (λ t m. IsClosedAt w t m) order c.loop-m.table c.loop-m.added i (get_or order i 0) c.loop-m.invariant at c.add_method.new.table c.in_ok-add_method.field-0 c.if-branch.added
-          added.table added.step v.if-branch.true v.added-is
-      | else-branch v ↦
-          pass_stays w c.args.table.now (λ t m. IsClosedAt w t m) order c.loop-m.table c.loop-m.added i (get_or order i 0) c.loop-m.invariant at c.add_method.new.table c.in_ok-add_method.field-0 c.if-branch.added
-          added.table added.step added.closed v.if-branch.false v.added-is
-    ]
+    let start = c.args.table.now in
+    let links = c.args.links.now in
+    let i = c.loop-i.i in
+    let x = get_or links i none in
+    let at = slice_get-get_or links i none c.loop-i-test.true in
+    let h = c.loop-i.invariant in
+    let old = c.loop-i.table in
+    let new = c.add_link.new.table in
+    let row = c.in_ok-row.row in
+    let added = c.in_ok-row.ensures in
+    record {
+      pass = elim c.if-more.branch [
+        | then-more v ↦
+            pass_adds w start (λ t (x : Link). IsFollowed w t x.lower x.upper) links old c.loop-i.added i x h.pass at new c.in_ok-row.more c.if-more.added added.table added.step v.if-more.true v.added-is
+        | else-more v ↦
+            pass_stays w start (λ t (x : Link). IsFollowed w t x.lower x.upper) links old c.loop-i.added i x h.pass at new c.in_ok-row.more c.if-more.added added.table added.step added.followed
+            v.if-more.false v.added-is
+      ];
+      size = length_set c.loop-i.taken.items i (Some row) ∙ h.size;
+      taken = taken_next w links c.loop-i.taken.items old new i x row h.taken added.step.grows added.maps at added.taken;
+    }
 
 pub returns-clause-table : goal.returns-clause-table
-returns-clause-table c = c.loop-m.invariant.derived
+returns-clause-table c = c.loop-i.invariant.pass.derived
 
 pub returns-clause-step : goal.returns-clause-step
-returns-clause-step c = c.loop-m.invariant.step
+returns-clause-step c = c.loop-i.invariant.pass.step
 
 pub returns-clause-closed : goal.returns-clause-closed
-returns-clause-closed c none = pass_ends c.args.w.now c.args.table.now (λ t m. IsClosedAt c.args.w.now t m) c.args.order.now c.loop-m.table c.loop-m.added c.loop-m.m-index c.loop-m.invariant c.loop-m-test.false none
+returns-clause-closed c stays =
+    pass_ends c.args.w.now c.args.table.now (λ t (x : Link). IsFollowed c.args.w.now t x.lower x.upper) c.args.links.now c.loop-i.table c.loop-i.added c.loop-i.i c.loop-i.invariant.pass
+    (omega (arith, c.loop-i-test.false)) stays

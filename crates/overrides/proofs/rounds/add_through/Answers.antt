@@ -1,13 +1,15 @@
-use Rattle.std.proofs.Common.{ℕ, sym, subst, get_or}
+use Rattle.std.proofs.Common.{◌≡◌, ℕ, None, sym, subst, get_or, arith}
 use Rattle.std.specs.List.{Contains}
 use Rattle.std.proofs.lemmas.Option.{slice_get-get_or}
 use Rattle.std.proofs.lemmas.List.Elements.{Contains-get_or}
 use Rattle.shared_maps.specs.Maps.{AreEntries}
+use Rattle.shared_maps.proofs.Kept.{keeps_both}
 use Rattle.class_world.specs.Overriding as by
 use Rattle.class_world.specs.Overriding.{Overriding}
-use Rattle.overrides.specs.Tables.{Rows, Has, value_at}
-use Rattle.overrides.specs.Rounds.{IsDerived}
-use Rattle.overrides.proofs.Gains.{HasThird, begun_derived, added_derived, derived_row, derived_key, pass_begins, pass_adds, pass_stays, pass_ends}
+use Rattle.overrides.specs.Tables.{value_at}
+use Rattle.overrides.specs.Rounds.{IsDerived, IsStep}
+use Rattle.overrides.proofs.Places.{items_more, items_all, absent}
+use Rattle.overrides.proofs.Gains.{HasThird, added_derived, derived_row, derived_key, step_on, step_still, third_on}
 use Rattle.overrides.proofs.rounds.add_through.Goals as goal
 use Rattle.overrides.proofs.rounds.add_through.Goals.{After-deref-entry-items, then-branch, else-branch}
 
@@ -22,21 +24,22 @@ entries_are c = subst (AreEntries (value_at c.add.new.table c.args.t)) (sym c.de
 above : (c : After-deref-entry-items) (p : ℕ × ℕ) → Contains c.deref-entry-items.result.now p → Overriding c.args.w.now c.args.t p.0
 above c p has = (derived_after c).sound c.args.t p.0 (p.1, ((entries_are c).each p.0 p.1).0 has)
 
-pub returns-then-is_bare-clause-table : goal.returns-then-is_bare-clause-table
-returns-then-is_bare-clause-table c =
-    let begun = c.in_ok-begin.ensures in
-    begun_derived c.args.table.now c.begin.new.self c.args.m c.args.t begun.begun (c.is_bare.ensures c.if-is_bare.true) c.args.w.now c.requires.table begun.size c.requires.at_once (c.requires.free c.if-free.true)
-
 pub add-requires-clause-row : goal.add-requires-clause-row
 add-requires-clause-row c = derived_row c.args.w.now c.args.table.now c.args.m c.args.t c.requires.table (by.at_once c.requires.at_once)
 
 pub add-requires-clause-key : goal.add-requires-clause-key
 add-requires-clause-key c = derived_key c.args.w.now c.args.table.now c.args.m c.args.t c.requires.table (by.at_once c.requires.at_once)
 
+pub begin_again-requires-clause-free : goal.begin_again-requires-clause-free
+begin_again-requires-clause-free c = c.requires.free c.if-free.true
+
 pub loop-entry-init : goal.loop-entry-init
 loop-entry-init c = record {
-  pass = pass_begins c.args.w.now c.args.table.now (HasThird c.args.w.now c.args.m) c.deref-entry-items.result.now c.add.new.table c.in_ok-added.added (derived_after ((goal.at.loop-entry-init c).After-deref-entry-items)) c.in_ok-added.ensures.step;
+  derived = derived_after ((goal.at.loop-entry-init c).After-deref-entry-items);
+  maps = c.in_ok-added.ensures.maps;
+  step = c.in_ok-added.ensures.step;
   has = c.in_ok-added.ensures.has;
+  thirds = λ j p lt. absurd (omega (arith, lt));
 }
 
 pub add_third-requires-clause-through : goal.add_third-requires-clause-through
@@ -54,32 +57,48 @@ add_third-requires-clause-free c free =
 pub loop-entry-preserved : goal.loop-entry-preserved
 loop-entry-preserved c =
     let w = c.args.w.now in
+    let m = c.args.m in
+    let start = c.args.table.now in
     let entries = c.deref-entry-items.result.now in
     let i = c.loop-entry.entry-index in
     let p = get_or entries i (0, 0) in
     let at = slice_get-get_or entries i (0, 0) c.loop-entry-test.true in
     let h = c.loop-entry.invariant in
     let added = c.in_ok-add_third.ensures in
+    let new = c.add_third.new.table in
     record {
-      pass = elim c.if-branch.branch [
-        | then-branch v ↦
-            pass_adds w c.args.table.now (HasThird w c.args.m) entries c.loop-entry.table c.loop-entry.added i p h.pass at c.add_third.new.table c.in_ok-add_third.field-0 c.if-branch.added added.table added.step
-            v.if-branch.true v.added-is
-        | else-branch v ↦
-            pass_stays w c.args.table.now (HasThird w c.args.m) entries c.loop-entry.table c.loop-entry.added i p h.pass at c.add_third.new.table c.in_ok-add_third.field-0 c.if-branch.added added.table added.step
-            (λ e. added.has) v.if-branch.false v.added-is
+      derived = added.table;
+      maps = keeps_both h.maps added.maps;
+      step = elim c.if-branch.branch [
+        | then-branch v ↦ subst (IsStep start new) (sym v.added-is) (step_on h.step (subst (IsStep c.loop-entry.table new) v.if-branch.true added.step))
+        | else-branch v ↦ subst (IsStep start new) (sym v.added-is) (step_still h.step (subst (IsStep c.loop-entry.table new) v.if-branch.false added.step))
       ];
-      has = added.step.grows c.args.m c.args.t h.has;
+      has = added.step.grows m c.args.t h.has;
+      thirds = items_more {A = ℕ × ℕ} (HasThird w m new) entries i p (λ j q lt is. third_on w m c.loop-entry.table new q added.step.grows (h.thirds j q lt is)) at added.has;
     }
 
-pub returns-clause-followed : goal.returns-clause-followed
-returns-clause-followed c none = (
-  c.loop-entry.invariant.has,
-  λ k has other agree.
-      let h = c.loop-entry.invariant.pass in
-      let before : Has c.args.table.now c.args.t k = subst (λ (t : Rows). Has t c.args.t k) (h.step.same none) has in
-      let listed = c.in_ok-added.ensures.step.grows c.args.t k before in
-      let entry = ((entries_are ((goal.at.returns-clause-followed c).After-deref-entry-items)).each k listed.0).1 listed.1 in
-      pass_ends c.args.w.now c.args.table.now (HasThird c.args.w.now c.args.m) c.deref-entry-items.result.now c.loop-entry.table c.loop-entry.added c.loop-entry.entry-index h c.loop-entry-test.false none
-      (k, listed.0) entry other agree,
-)
+pub returns-then-is_none-clause-step : goal.returns-then-is_none-clause-step
+returns-then-is_none-clause-step c =
+    let begun = c.in_ok-begin_again.ensures in
+    record {
+      grows = begun.grows;
+      gains = λ e. (
+        c.args.m,
+        c.args.t,
+        λ had.
+            let none : value_at c.args.table.now c.args.m c.args.t ≡ None = absent c.get.result (value_at c.args.table.now c.args.m c.args.t) c.is_none.result c.get.ensures c.is_none.ensures c.if-is_none.true in
+            absurd (cc (none, had.1)),
+        begun.joined.has,
+      );
+      same = λ e. absurd (cc e);
+    }
+
+pub returns-clause-joined : goal.returns-clause-joined
+returns-clause-joined c = record {
+  has = c.loop-entry.invariant.has;
+  all = λ k has other agree.
+      let h = c.loop-entry.invariant in
+      let listed = c.in_ok-added.ensures.step.grows c.args.t k has in
+      let entry = ((entries_are ((goal.at.returns-clause-joined c).After-deref-entry-items)).each k listed.0).1 listed.1 in
+      items_all {A = ℕ × ℕ} (HasThird c.args.w.now c.args.m c.loop-entry.table) c.deref-entry-items.result.now c.loop-entry.entry-index h.thirds c.loop-entry-test.false (k, listed.0) entry other agree;
+}

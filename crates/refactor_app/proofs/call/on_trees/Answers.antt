@@ -1,30 +1,64 @@
-use Rattle.std.proofs.Common.{refl, sym, ◌∙◌, arith}
+use Rattle.std.proofs.Common.{◌≡◌, ℕ, IfOk, List, length, map, take, inl, inr, refl, sym, ◌∙◌, ap, subst, arith}
+use Rattle.std.specs.String.{string_bytes}
+use Rattle.java_tree.specs.Names.{IsTable, built_in_names}
 use Rattle.java_tree.specs.View.{unit_plain}
+use Rattle.java_tree.specs.declared.tree.SourceUnit.{SourceUnit}
+use Rattle.source_files.specs.Trees.{AreTrees}
 use Rattle.refactor_app.specs.Asked.{request_of}
+use Rattle.refactor_app.specs.Declarations.{AreDeclared, IsBroken, broken_line}
 use Rattle.refactor_app.specs.Course as way
 use Rattle.refactor_app.specs.Refusals as refusal
-use Rattle.refactor_app.proofs.Courses.{one_file, one_small, on_one, not_alone}
+use Rattle.refactor_app.proofs.Courses.{map_length, users_within, held_small, made}
+use Rattle.refactor_app.proofs.OneDeclared.{words_table}
+use Rattle.refactor_app.proofs.Tables.{front_taken, front_long, built_in_first, names_few}
 use Rattle.refactor_app.proofs.call.on_trees.Goals as goal
 
-pub answer-requires-clause-size : goal.answer-requires-clause-size
-answer-requires-clause-size g c =
-    let file = (one_file unit_plain _ (request_of c.args.q.now) c.args.texts.now c.as_slice.result.now c.args.parsed.names c.args.parsed.units c.pop.new.self.items c.in-Some.unit c.requires.held
-    c.requires.trees.0 (omega arith) (rw c.as_slice.ensures c.index-texts-0.is) (sym c.into_vec.ensures ∙ c.in-Some.ensures.items)) in
-    one_small _ 0 _ c.as_slice.result.now file.held
+pub judge_declarations-requires-clause-users : goal.judge_declarations-requires-clause-users
+judge_declarations-requires-clause-users g c =
+    let users = users_within _ (request_of c.args.q.now) c.args.texts.now _ _ c.requires.held c.requires.trees.0 in
+    let many = map_length unit_plain c.args.parsed.units in
+    let all = map_length string_bytes c.args.q.now.users.now in
+    let slice = ap length c.as_slice.ensures in
+    omega (arith, users, many, all, slice)
 
-pub answer-requires-clause-unit : goal.answer-requires-clause-unit
-answer-requires-clause-unit g c =
-    let file = (one_file unit_plain _ (request_of c.args.q.now) c.args.texts.now c.as_slice.result.now c.args.parsed.names c.args.parsed.units c.pop.new.self.items c.in-Some.unit c.requires.held
-    c.requires.trees.0 (omega arith) (rw c.as_slice.ensures c.index-texts-0.is) (sym c.into_vec.ensures ∙ c.in-Some.ensures.items)) in
-    file.trees
+pub judge_declarations-requires-clause-few : goal.judge_declarations-requires-clause-few
+judge_declarations-requires-clause-few g c = let few = names_few _ _ _ c.requires.trees.0 in omega (arith, few)
 
-pub returns-in-Some : goal.returns-in-Some
-returns-in-Some g c words asks =
-    let file = (one_file unit_plain _ (request_of c.args.q.now) c.args.texts.now c.as_slice.result.now c.args.parsed.names c.args.parsed.units c.pop.new.self.items c.in-Some.unit c.requires.held
-    c.requires.trees.0 (omega arith) (rw c.as_slice.ensures c.index-texts-0.is) (sym c.into_vec.ensures ∙ c.in-Some.ensures.items)) in
-    on_one words (request_of c.args.q.now) c.as_slice.result.now c.args.parsed.names (unit_plain c.in-Some.unit) _ _ _ asks file c.answer.ensures
+pub on_declared-requires-clause-table : goal.on_declared-requires-clause-table
+on_declared-requires-clause-table g c = subst IsTable (sym c.in-Ok.ensures.table) (words_table c.args.parsed.names c.requires.trees.1)
 
-pub returns-then-texts-ne1 : goal.returns-then-texts-ne1
-returns-then-texts-ne1 g c words asks =
-    let none = not_alone (request_of c.args.q.now) c.args.texts.now _ c.requires.held (λ one. absurd (omega (arith, one))) in
-    way.Course.refuses (refusal.Refusal.n2 (request_of c.args.q.now) c.args.texts.now c.args.parsed.names _ (record { read = record { asks = asks; held = c.requires.held }; trees = c.requires.trees.0 }) none) refl c.put.ensures
+pub on_declared-requires-clause-within : goal.on_declared-requires-clause-within
+on_declared-requires-clause-within g c = let long = front_long _ _ c.in-Ok.ensures.kept in omega (arith, long)
+
+pub on_declared-requires-clause-built_in : goal.on_declared-requires-clause-built_in
+on_declared-requires-clause-built_in g c = let first = built_in_first _ c.requires.trees.1 in omega (arith, first)
+
+pub on_declared-requires-clause-trees : goal.on_declared-requires-clause-trees
+on_declared-requires-clause-trees g c =
+    let same = ap (λ (n : ℕ). take n c.judge_declarations.new.names) c.len-count.ensures.value ∙ front_taken c.args.parsed.names c.judge_declarations.new.names c.in-Ok.ensures.kept in
+    subst (λ (ns : List (List ℕ)). AreTrees built_in_names 0 0 c.args.texts.now (map unit_plain c.args.parsed.units) ns) (sym same) c.requires.trees.0
+
+pub on_declared-requires-clause-declared : goal.on_declared-requires-clause-declared
+on_declared-requires-clause-declared g c =
+    let same = ap (λ (n : ℕ). take n c.judge_declarations.new.names) c.len-count.ensures.value ∙ front_taken c.args.parsed.names c.judge_declarations.new.names c.in-Ok.ensures.kept in
+    let judged = subst (λ (us : List SourceUnit). AreDeclared (length c.args.q.now.users.now) c.args.parsed.names (map unit_plain us)) c.as_slice.ensures c.in-Ok.ensures.judged in
+    let declared = subst (λ (n : ℕ). AreDeclared n c.args.parsed.names (map unit_plain c.args.parsed.units)) (sym (map_length string_bytes c.args.q.now.users.now)) judged in
+    subst (λ (ns : List (List ℕ)). AreDeclared (length (request_of c.args.q.now).users) ns (map unit_plain c.args.parsed.units)) (sym same) declared
+
+pub broken_line-line-requires : goal.broken_line-line-requires
+broken_line-line-requires g c = record { small = held_small _ 0 _ c.args.texts.now c.requires.held }
+
+pub returns-in-Err-Broken : goal.returns-in-Err-Broken
+returns-in-Err-Broken g c words asks =
+    let q = request_of c.args.q.now in
+    let judged = rw c.in-Err-Broken.field-0-is at c.in-Err-Broken.ensures.judged in
+    let named = subst (λ (us : List SourceUnit). IsBroken (length c.args.q.now.users.now) c.args.parsed.names (map unit_plain us) c.in-Err-Broken.broken) c.as_slice.ensures judged in
+    let broken = subst (λ (n : ℕ). IsBroken n c.args.parsed.names (map unit_plain c.args.parsed.units) c.in-Err-Broken.broken) (sym (map_length string_bytes c.args.q.now.users.now)) named in
+    let line = subst (λ (us : List SourceUnit). IfOk c.broken_line-line.result (λ r. string_bytes r ≡ broken_line q c.args.texts.now (map unit_plain us) c.in-Err-Broken.broken))
+    c.as_slice-in-Err-Broken.ensures (c.broken_line-line.ensures q (sym c.requires.names)) in
+    elim (made c.broken_line-line.result _ _ _ _ _ _ _ line c.put_made.ensures.put c.put_made.ensures.none) [
+      | inl ends ↦
+          way.Course.refuses (refusal.Refusal.declared q c.args.texts.now c.args.parsed.names _ c.in-Err-Broken.broken
+          (record { read = record { asks = asks; held = c.requires.held }; trees = c.requires.trees.0 }) broken) refl ends
+      | inr none ↦ way.Course.no_memory refl none.1 none.0
+    ]

@@ -1,4 +1,4 @@
-use Rattle.std.proofs.Common.{◌≡◌, ◌↔◌, ℕ, Some, refl, sym, ap, ◌∙◌, subst, length, arith}
+use Rattle.std.proofs.Common.{◌≡◌, ◌↔◌, ◌⊎◌, ℕ, Some, refl, sym, ap, ◌∙◌, subst, length, arith}
 use Rattle.std.specs.Prelude.{slice_get}
 use Rattle.std.specs.List.{Contains}
 use Rattle.std.proofs.lemmas.Option.{slice_get_within, slice_get_read}
@@ -60,8 +60,10 @@ returns-clause-making c =
     let own = subst (λ l. (m : ℕ) → Contains l m ↔ DeclaresMethod c.args.w.now c.args.c m) (sym c.as_slice.ensures) (c.requires.own.each c.args.c c.index-own-c.result row) in
     let grouped = subst (AreGroups c.args.keyed.now c.as_slice.result.now) (sym c.as_slice-4.ensures.value) c.in_ok-groups.ensures in
     let above = subst (λ l. (s : ℕ) → Contains l s ↔ IsDirectlyAbove c.args.w.now c.args.c s) (sym c.as_slice-3.ensures.value) c.in_ok-above.ensures in
+    let same_above = c.as_slice-6.ensures.value ∙ sym c.as_slice-3.ensures.value in
+    let choice = subst (λ l. ((c.inheritable.result ≡ c.in_ok-handed.handed) × Contains l c.args.c) ⊎ ((c.inheritable.result ≡ c.in_ok-inherited.inherited) × (Contains l c.args.c → ⊥))) same_above c.inheritable.ensures in
     step_making c.args.w.now c.requires.keyed.0 c.args.keyed.now c.requires.keyed.1 c.args.c (length all) c.args.self.now c.requires.making c.requires.ready c.as_slice-2.result.now c.as_slice-2.ensures.value c.as_slice.result.now
-    c.as_slice-3.result.now c.as_slice-4.result.now own grouped above c.inherited.new.tables c.in_ok-inherited.inherited c.in_ok-inherited.ensures c.members_of.new.tables c.in_ok-members.members c.in_ok-members.ensures _ c.in_ok-handed.handed c.in_ok-handed.ensures c.requires.within refl refl
+    c.as_slice-3.result.now c.as_slice-4.result.now own grouped above c.inherited.new.tables c.in_ok-inherited.inherited c.in_ok-inherited.ensures c.members_of.new.tables c.in_ok-members.members c.in_ok-members.ensures _ _ c.in_ok-handed.handed c.in_ok-handed.ensures c.requires.within c.requires.sound choice refl refl refl
 
 pub returns-clause-done : goal.returns-clause-done
 returns-clause-done c =
@@ -70,8 +72,10 @@ returns-clause-done c =
     let own = subst (λ l. (m : ℕ) → Contains l m ↔ DeclaresMethod c.args.w.now c.args.c m) (sym c.as_slice.ensures) (c.requires.own.each c.args.c c.index-own-c.result row) in
     let grouped = subst (AreGroups c.args.keyed.now c.as_slice.result.now) (sym c.as_slice-4.ensures.value) c.in_ok-groups.ensures in
     let above = subst (λ l. (s : ℕ) → Contains l s ↔ IsDirectlyAbove c.args.w.now c.args.c s) (sym c.as_slice-3.ensures.value) c.in_ok-above.ensures in
+    let same_above = c.as_slice-6.ensures.value ∙ sym c.as_slice-3.ensures.value in
+    let choice = subst (λ l. ((c.inheritable.result ≡ c.in_ok-handed.handed) × Contains l c.args.c) ⊎ ((c.inheritable.result ≡ c.in_ok-inherited.inherited) × (Contains l c.args.c → ⊥))) same_above c.inheritable.ensures in
     step_done c.args.w.now c.requires.keyed.0 c.args.keyed.now c.requires.keyed.1 c.args.c (length all) c.args.self.now c.requires.making c.requires.ready c.as_slice-2.result.now c.as_slice-2.ensures.value c.as_slice.result.now
-    c.as_slice-3.result.now c.as_slice-4.result.now own grouped above c.inherited.new.tables c.in_ok-inherited.inherited c.in_ok-inherited.ensures c.members_of.new.tables c.in_ok-members.members c.in_ok-members.ensures _ c.in_ok-handed.handed c.in_ok-handed.ensures c.requires.within refl refl
+    c.as_slice-3.result.now c.as_slice-4.result.now own grouped above c.inherited.new.tables c.in_ok-inherited.inherited c.in_ok-inherited.ensures c.members_of.new.tables c.in_ok-members.members c.in_ok-members.ensures _ _ c.in_ok-handed.handed c.in_ok-handed.ensures c.requires.within c.requires.sound choice refl refl refl
 
 pub returns-clause-kept : goal.returns-clause-kept
 returns-clause-kept c =
@@ -80,5 +84,7 @@ returns-clause-kept c =
     let own = subst (λ l. (m : ℕ) → Contains l m ↔ DeclaresMethod c.args.w.now c.args.c m) (sym c.as_slice.ensures) (c.requires.own.each c.args.c c.index-own-c.result row) in
     let grouped = subst (AreGroups c.args.keyed.now c.as_slice.result.now) (sym c.as_slice-4.ensures.value) c.in_ok-groups.ensures in
     let above = subst (λ l. (s : ℕ) → Contains l s ↔ IsDirectlyAbove c.args.w.now c.args.c s) (sym c.as_slice-3.ensures.value) c.in_ok-above.ensures in
+    let same_above = c.as_slice-6.ensures.value ∙ sym c.as_slice-3.ensures.value in
+    let choice = subst (λ l. ((c.inheritable.result ≡ c.in_ok-handed.handed) × Contains l c.args.c) ⊎ ((c.inheritable.result ≡ c.in_ok-inherited.inherited) × (Contains l c.args.c → ⊥))) same_above c.inheritable.ensures in
     step_kept c.args.w.now c.requires.keyed.0 c.args.keyed.now c.requires.keyed.1 c.args.c (length all) c.args.self.now c.requires.making c.requires.ready c.as_slice-2.result.now c.as_slice-2.ensures.value c.as_slice.result.now
-    c.as_slice-3.result.now c.as_slice-4.result.now own grouped above c.inherited.new.tables c.in_ok-inherited.inherited c.in_ok-inherited.ensures c.members_of.new.tables c.in_ok-members.members c.in_ok-members.ensures _ c.in_ok-handed.handed c.in_ok-handed.ensures c.requires.within refl refl
+    c.as_slice-3.result.now c.as_slice-4.result.now own grouped above c.inherited.new.tables c.in_ok-inherited.inherited c.in_ok-inherited.ensures c.members_of.new.tables c.in_ok-members.members c.in_ok-members.ensures _ _ c.in_ok-handed.handed c.in_ok-handed.ensures c.requires.within c.requires.sound choice refl refl refl

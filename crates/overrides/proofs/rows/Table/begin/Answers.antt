@@ -1,5 +1,6 @@
 use Rattle.std.proofs.Common.{◌<◌, refl, sym, subst, length}
 use Rattle.std.proofs.lemmas.Option.{slice_get_read}
+use Rattle.shared_maps.proofs.Kept.{keeps_both}
 use Rattle.overrides.specs.Tables.{Rows}
 use Rattle.overrides.proofs.Grids.{table_kept, table_set, row_begun}
 use Rattle.overrides.proofs.rows.Table.begin.Goals as goal
@@ -26,3 +27,6 @@ returns-clause-begun c =
     rw (← c.self.view_is)
     (row_begun c.self.inside.maps c.put.new.self c.put-2.new.self rows c.args.m c.args.t c.index.result.now c.in_ok-rest.rest c.in_ok-self-inside.field-0 c.self.invariant first.kept second.kept
     (slice_get_read rows (length rows) c.args.t c.index.result.now refl other c.index.ensures) row itself key first.value second.value)
+
+pub returns-clause-maps : goal.returns-clause-maps
+returns-clause-maps c = rw (← c.self.view_is) (keeps_both c.in_ok-rest.ensures.kept c.in_ok-self-inside.ensures.kept)

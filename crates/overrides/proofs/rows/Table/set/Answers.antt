@@ -19,3 +19,6 @@ returns-clause-written c =
     rw (← c.self.view_is)
     (set_written c.self.inside.maps c.put.new.self rows c.args.m c.args.k c.args.value c.index.result.now c.in_ok-self-inside.field-0 c.self.invariant put.kept
     (slice_get_read rows (length rows) c.args.m c.index.result.now refl row c.index.ensures) key put.value)
+
+pub returns-clause-maps : goal.returns-clause-maps
+returns-clause-maps c = rw (← c.self.view_is) c.in_ok-self-inside.ensures.kept

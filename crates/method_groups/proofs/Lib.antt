@@ -1,0 +1,6 @@
+pub mod Firsts
+pub mod Beside
+pub mod Rows
+pub mod Joins
+pub mod Shapes
+pub mod Groups

@@ -1,0 +1,4 @@
+pub mod Beside
+pub mod Labels
+pub mod Constructors
+pub mod Groups

@@ -1,0 +1,60 @@
+//! The groups of methods: a method with those beside it in some type (JLS 3rd edition, 8.4.8 and 8.4.9), and the constructors of a class (8.8), by number of parameters.
+#![tactic(auto)]
+
+ghost use Rattle.std.specs.Prelude.{◌<◌, ◌↔◌, ℕ, IfOk, length};
+ghost use Rattle.std.specs.List.{Contains};
+ghost use Rattle.std.specs.List.Sorted.{IsStrictlyIncreasing};
+ghost use Rattle.class_world.specs.declared.world.World as worlds;
+ghost use Rattle.class_world.specs.Inheritance.{IsGrouped};
+ghost use Rattle.class_world.specs.Sound.{IsSound};
+ghost use Rattle.member_methods.specs.Methods.{HoldsMethods};
+ghost use Rattle.method_groups.specs.Groups.{HoldsGroups};
+
+mod constructors;
+mod labels;
+mod made;
+mod overloads;
+mod types;
+
+use class_world::World;
+use constructors::all_constructors;
+use java_tree::{Items, NoMemory};
+use made::all_groups;
+use member_methods::MethodLists;
+use std::alloc::Global;
+use types::labels_of;
+
+/// The groups of all methods, each once, and the place of each method's.
+#[derive(Drop)]
+pub struct MethodGroups {
+    places: Vec<u32>,
+    groups: Vec<Items<u32>>,
+}
+
+impl MethodGroups {
+    /// The groups of the methods of a sound world. `NoMemory` also where it has 2^32 methods or types.
+    ///
+    /// Takes time and memory for the methods that the types have as members, each as often as there are types that have it. Beyond that, each different group takes time for its numbers, and for the methods of all overloads that its methods stand among and those of no smaller group do; these are sorted. So it is more than linear where methods of one type stand beside different others elsewhere: n such methods have n groups, each of n numbers or more.
+    pub fn of(alloc: Global, w: &World, lists: &MethodLists) -> Result<MethodGroups, NoMemory>
+        requires sound { IsSound w.now }
+        requires lists { HoldsMethods w.now lists.now }
+        ensures { IfOk result (λ t. HoldsGroups w.now t) }
+    {
+        let labels = labels_of(alloc, w, lists)?;
+        let constructors = all_constructors(alloc, w)?;
+        all_groups(alloc, w, lists, &labels, constructors)
+    }
+
+    /// The group of a method of the world, by number, ascending; the method is in it. Takes no memory.
+    pub fn get(&self, m: u32) -> &[u32]
+        ensures { (w : worlds.World) → HoldsGroups w self.now → m < length w.methods → ((k : ℕ) → Contains result.now k ↔ IsGrouped w m k) × IsStrictlyIncreasing result.now }
+    {
+        match self.places.get(m as usize) {
+            Some(place) => match self.groups.get(*place as usize) {
+                Some(list) => list.as_slice(),
+                None => &[],
+            },
+            None => &[],
+        }
+    }
+}

@@ -1,0 +1,199 @@
+//! The groups, made from labels.
+
+ghost use Rattle.std.specs.Prelude.{◌≡◌, ◌<◌, ◌↔◌, ℕ, IfOk, OnOk, length};
+ghost use Rattle.std.specs.List.{Contains};
+ghost use Rattle.std.specs.List.Sorted.{IsStrictlyIncreasing};
+ghost use Rattle.class_world.specs.Inheritance.{IsGrouped};
+ghost use Rattle.member_methods.specs.Methods.{HoldsMethods};
+ghost use Rattle.method_groups.specs.Constructors.{found_in};
+ghost use Rattle.method_groups.specs.Groups.{AreMade, HasList, HoldsConstructors, HoldsGroups, KeepsLists};
+ghost use Rattle.method_groups.specs.Labels.{AreAllLabels, AreMembers, IsFit, IsOverload, Passes, StandsFor};
+ghost use Rattle.method_groups.specs.declared.overloads.Overloads as the_overloads;
+
+use crate::MethodGroups;
+use crate::constructors::{Constructors, Shape, shape_of};
+use crate::labels::Labels;
+use crate::overloads::methods_of;
+use class_world::World;
+use java_tree::{Items, NoMemory};
+use member_methods::MethodLists;
+use std::alloc::Global;
+use std::collections::HashMap;
+
+/// The groups made so far, and the place of each label's group if it is made.
+#[derive(Drop)]
+pub(crate) struct Made {
+    by_label: Vec<Option<u32>>,
+    groups: Vec<Items<u32>>,
+}
+
+/// The groups of all methods.
+pub(crate) fn all_groups(
+    alloc: Global,
+    w: &World,
+    lists: &MethodLists,
+    labels: &Labels,
+    constructors: Constructors,
+) -> Result<MethodGroups, NoMemory>
+    requires lists { HoldsMethods w.now lists.now }
+    requires labels { AreAllLabels w.now labels.now }
+    requires constructors { HoldsConstructors w.now (found_in constructors.places) constructors.lists.items }
+    ensures { IfOk result (λ t. HoldsGroups w.now t) }
+{
+    let Constructors {
+        places: shapes,
+        lists: groups,
+    } = constructors;
+    let mut made = Made {
+        by_label: vec![in alloc; None; labels.rows.len()]?,
+        groups,
+    };
+    made.make_all(alloc, w, lists, labels)?;
+    let mut places = Vec::new(alloc);
+    for m in 0..w.methods.len() {
+        let place = made.place_of(alloc, w, lists, labels, &shapes, m)?;
+        places.push(place)?;
+    }
+    let Made {
+        by_label: _,
+        groups,
+    } = made;
+    Ok(MethodGroups { places, groups })
+}
+
+impl Made {
+    /// Makes the groups of all methods' labels. Lower labels come first, since higher ones lead to them.
+    fn make_all(
+        &mut self,
+        alloc: Global,
+        w: &World,
+        lists: &MethodLists,
+        labels: &Labels,
+    ) -> Result<(), NoMemory>
+        requires lists { HoldsMethods w.now lists.now }
+        requires labels { AreAllLabels w.now labels.now }
+        requires made { AreMade w.now labels.now.rows.items self.old }
+        ensures made { OnOk result (AreMade w.now labels.now.rows.items self.new) }
+        ensures kept { OnOk result (KeepsLists self.old.groups.items self.new.groups.items) }
+    {
+        let mut order = Vec::from_slice(alloc, labels.labels.as_slice())?;
+        order.sort_unstable();
+        for label in order.as_slice() {
+            self.place_of_label(alloc, w, lists, labels, *label)?;
+        }
+        Ok(())
+    }
+
+    /// The place of a method's group. Methods of one label share it, and so do constructors of one shape.
+    fn place_of(
+        &mut self,
+        alloc: Global,
+        w: &World,
+        lists: &MethodLists,
+        labels: &Labels,
+        shapes: &HashMap<Shape, u32>,
+        m: usize,
+    ) -> Result<u32, NoMemory>
+        requires within { m < length w.now.methods }
+        requires lists { HoldsMethods w.now lists.now }
+        requires labels { AreAllLabels w.now labels.now }
+        requires constructors { HoldsConstructors w.now (found_in shapes.now) self.old.groups.items }
+        requires made { AreMade w.now labels.now.rows.items self.old }
+        ensures made { OnOk result (AreMade w.now labels.now.rows.items self.new) }
+        ensures kept { OnOk result (KeepsLists self.old.groups.items self.new.groups.items) }
+        ensures has { IfOk result (λ p. HasList self.new.groups.items p (IsGrouped w.now m)) }
+    {
+        let info = &w.methods.as_slice()[m];
+        if info.constructor {
+            if let Some(place) = shapes.get(&shape_of(info)) {
+                return Ok(*place);
+            }
+        }
+        self.place_of_label(alloc, w, lists, labels, labels.labels[m])
+    }
+
+    /// The place of the group of a label's methods, which is made if it is not there.
+    fn place_of_label(
+        &mut self,
+        alloc: Global,
+        w: &World,
+        lists: &MethodLists,
+        labels: &Labels,
+        label: u32,
+    ) -> Result<u32, NoMemory>
+        requires within { label < length labels.now.rows.items }
+        requires lists { HoldsMethods w.now lists.now }
+        requires fit { IsFit labels.now }
+        requires members { AreMembers w.now labels.now.rows.items label }
+        requires made { AreMade w.now labels.now.rows.items self.old }
+        ensures made { OnOk result (AreMade w.now labels.now.rows.items self.new) }
+        ensures kept { OnOk result (KeepsLists self.old.groups.items self.new.groups.items) }
+        ensures has { IfOk result (λ p. HasList self.new.groups.items p (IsOverload w.now labels.now.rows.items label)) }
+    {
+        if let Some(place) = self.by_label[label as usize] {
+            return Ok(place);
+        }
+        let group = self.overloads_of(alloc, w, lists, labels, label)?;
+        let Ok(place) = u32::try_from(self.groups.len()) else {
+            return Err(NoMemory);
+        };
+        self.groups.push(Items::from_vec(group))?;
+        self.by_label[label as usize] = Some(place);
+        Ok(place)
+    }
+
+    /// All methods of the overloads that a label stands for. A label that it leads to, and whose group is made, gives that.
+    fn overloads_of(
+        &self,
+        alloc: Global,
+        w: &World,
+        lists: &MethodLists,
+        labels: &Labels,
+        label: u32,
+    ) -> Result<Vec<u32>, NoMemory>
+        requires within { label < length labels.now.rows.items }
+        requires lists { HoldsMethods w.now lists.now }
+        requires fit { IsFit labels.now }
+        requires members { AreMembers w.now labels.now.rows.items label }
+        requires made { AreMade w.now labels.now.rows.items self.now }
+        ensures has { IfOk result (λ v. (k : ℕ) → Contains v.items k ↔ IsOverload w.now labels.now.rows.items label k) }
+        ensures ascending { IfOk result (λ v. IsStrictlyIncreasing v.items) }
+    {
+        let mut methods = Vec::new(alloc);
+        let mut at = label;
+        while at > 0 {
+            at = self.add_overloads(w, lists, labels, at, &mut methods)?;
+        }
+        methods.sort_unstable();
+        methods.dedup();
+        Ok(methods)
+    }
+
+    /// Adds methods that a label, but 0, stands for, and gives the label that stands for the rest.
+    fn add_overloads(
+        &self,
+        w: &World,
+        lists: &MethodLists,
+        labels: &Labels,
+        label: u32,
+        methods: &mut Vec<u32>,
+    ) -> Result<u32, NoMemory>
+        requires above { 0 < label }
+        requires within { label < length labels.now.rows.items }
+        requires lists { HoldsMethods w.now lists.now }
+        requires fit { IsFit labels.now }
+        requires members { AreMembers w.now labels.now.rows.items label }
+        requires made { AreMade w.now labels.now.rows.items self.now }
+        ensures falls { IfOk result (λ n. n < label) }
+        ensures rest { IfOk result (λ n. (x : the_overloads.Overloads) → StandsFor labels.now.rows.items n x → StandsFor labels.now.rows.items label x) }
+        ensures adds { IfOk result (λ n. Passes w.now labels.now.rows.items methods.old.items label methods.new.items n) }
+    {
+        if let Some(place) = self.by_label[label as usize] {
+            methods.extend_from_slice(self.groups[place as usize].as_slice())?;
+            return Ok(0);
+        }
+        let row = labels.rows[label as usize];
+        methods.extend_from_slice(methods_of(w, lists, row.last))?;
+        Ok(row.rest)
+    }
+}

@@ -1,8 +1,0 @@
-use Rattle.std.proofs.Common.{ℕ}
-use Rattle.class_world.specs.Inheritance.{IsMemberMethod}
-use Rattle.class_world.specs.Overriding.{IsClass}
-use Rattle.method_ties.proofs.Firsts.{Among}
-use Rattle.method_ties.proofs.meet.is_of_class.Given as goal
-
-abbrev pub invariant-loop-s : goal.invariant-loop-s
-invariant-loop-s l = (s : ℕ) → Among l.types l.s-index s → IsClass l.w s × IsMemberMethod l.w s l.m → ⊥

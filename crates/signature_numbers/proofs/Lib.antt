@@ -1,0 +1,4 @@
+pub mod Growing
+pub mod Rows
+pub mod Decoding
+pub mod Whole

@@ -1,0 +1,97 @@
+use java_tree::NoMemory;
+use shared_maps::{Map, SharedMaps};
+use std::alloc::Global;
+use std::test::Fail;
+
+fn has(maps: &SharedMaps, map: Map, values: &[(u32, Option<u32>)]) -> bool {
+    values.iter().all(|x| maps.get(map, x.0) == x.1)
+}
+
+fn lists(
+    alloc: Global,
+    maps: &SharedMaps,
+    map: Map,
+    entries: &[(u32, u32)],
+) -> Result<bool, NoMemory> {
+    Ok(maps.entries(alloc, map)?.as_slice() == entries)
+}
+
+#[test]
+fn later_maps_leave_earlier_ones_as_they_are(rt: HostRuntime) -> Result<(), Fail> {
+    let mut maps = SharedMaps::new(rt.alloc(), 1024)?;
+    let none = maps.empty();
+    let one = maps.put(none, 5, Some(50))?;
+    let two = maps.put(one, 1023, Some(7))?;
+    let three = maps.put(two, 0, Some(0))?;
+    let other = maps.put(three, 5, Some(51))?;
+    let fewer = maps.put(other, 1023, None)?;
+    let gone = maps.put(one, 5, None)?;
+    assert!(rt; has(&maps, none, &[(0, None), (5, None), (1023, None)]));
+    assert!(rt; has(&maps, one, &[(0, None), (5, Some(50)), (1023, None)]));
+    assert!(rt; has(&maps, two, &[(0, None), (5, Some(50)), (1023, Some(7))]));
+    assert!(rt;
+        has(
+            &maps,
+            three,
+            &[(0, Some(0)), (1, None), (5, Some(50)), (1023, Some(7))]
+        )
+    );
+    assert!(rt;
+        has(
+            &maps,
+            other,
+            &[(0, Some(0)), (4, None), (5, Some(51)), (1023, Some(7))]
+        )
+    );
+    assert!(rt;
+        has(
+            &maps,
+            fewer,
+            &[(0, Some(0)), (5, Some(51)), (1022, None), (1023, None)]
+        )
+    );
+    assert!(rt; lists(rt.alloc(), &maps, other, &[(0, 0), (5, 51), (1023, 7)])?);
+    assert!(rt; lists(rt.alloc(), &maps, fewer, &[(0, 0), (5, 51)])?);
+    assert!(rt; gone == none);
+    Ok(())
+}
+
+#[test]
+fn keys_from_the_limit_on_have_no_value(rt: HostRuntime) -> Result<(), Fail> {
+    let mut maps = SharedMaps::new(rt.alloc(), 1000)?;
+    let none = maps.empty();
+    let last = maps.put(none, 999, Some(1))?;
+    assert!(rt; maps.put(last, 1000, Some(2))? == last);
+    assert!(rt; maps.put(last, u32::MAX, Some(2))? == last);
+    assert!(rt;
+        has(
+            &maps,
+            last,
+            &[(999, Some(1)), (1000, None), (u32::MAX, None)]
+        )
+    );
+    assert!(rt; lists(rt.alloc(), &maps, last, &[(999, 1)])?);
+    Ok(())
+}
+
+#[test]
+fn the_smallest_and_the_largest_limits(rt: HostRuntime) -> Result<(), Fail> {
+    let mut no_keys = SharedMaps::new(rt.alloc(), 0)?;
+    let none = no_keys.empty();
+    assert!(rt; no_keys.put(none, 0, Some(1))? == none);
+    let mut one_key = SharedMaps::new(rt.alloc(), 1)?;
+    let one = one_key.put(one_key.empty(), 0, Some(9))?;
+    assert!(rt; has(&one_key, one, &[(0, Some(9)), (1, None)]));
+    let mut all = SharedMaps::new(rt.alloc(), u32::MAX)?;
+    let high = all.put(all.empty(), u32::MAX - 1, Some(3))?;
+    let both = all.put(high, 0, Some(4))?;
+    assert!(rt;
+        has(
+            &all,
+            both,
+            &[(0, Some(4)), (u32::MAX - 1, Some(3)), (u32::MAX, None)]
+        )
+    );
+    assert!(rt; lists(rt.alloc(), &all, both, &[(0, 4), (u32::MAX - 1, 3)])?);
+    Ok(())
+}

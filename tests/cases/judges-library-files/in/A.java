@@ -1,0 +1,2 @@
+import l.*;
+class A extends Box { }

@@ -1,0 +1,4 @@
+class A {
+  String a;
+  Strin b;
+}

@@ -1,0 +1,3 @@
+interface A {
+  int A = 1, B;
+}

@@ -1,0 +1,4 @@
+import l.Pair;
+class A {
+  void m(Pair<A, A> a, Pair<A> b) { }
+}

@@ -1,0 +1,4 @@
+import l.*;
+class A {
+  Hidden m() { return null; }
+}

@@ -1,0 +1,3 @@
+import l.*;
+import l.Hidden;
+class A { }

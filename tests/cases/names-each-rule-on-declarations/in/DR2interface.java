@@ -1,0 +1,2 @@
+class A { }
+interface B extends A { }

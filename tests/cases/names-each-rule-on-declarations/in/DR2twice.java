@@ -1,0 +1,3 @@
+interface I { }
+interface J { }
+class B implements I, J, I { }

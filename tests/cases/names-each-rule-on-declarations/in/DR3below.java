@@ -1,0 +1,3 @@
+class D extends B { }
+interface B extends C { }
+interface C extends B { }

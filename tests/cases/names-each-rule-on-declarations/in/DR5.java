@@ -1,0 +1,4 @@
+class A {
+  int a, b;
+  long c, a;
+}

@@ -1,0 +1,5 @@
+class A {
+  A() { }
+  A(int a[]) { }
+  A(int[] b) { }
+}

@@ -1,0 +1,3 @@
+class A {
+  public final public int a;
+}

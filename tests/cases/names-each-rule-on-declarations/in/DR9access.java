@@ -1,0 +1,3 @@
+class A {
+  private public int a;
+}

@@ -1,0 +1,3 @@
+class A {
+  abstract int a;
+}

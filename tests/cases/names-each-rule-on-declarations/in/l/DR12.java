@@ -1,0 +1,3 @@
+package l;
+class A<T> { }
+class B<T> extends Exception { }

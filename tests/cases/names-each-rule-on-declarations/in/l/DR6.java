@@ -1,0 +1,5 @@
+package l;
+class A<T> {
+  void m(T a) { }
+  void m(Object a) { }
+}

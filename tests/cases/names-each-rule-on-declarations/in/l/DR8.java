@@ -1,0 +1,3 @@
+package l;
+class A { }
+public class B<T, S, T> { }

@@ -1,0 +1,3 @@
+package l;
+import p.A;
+class L { }

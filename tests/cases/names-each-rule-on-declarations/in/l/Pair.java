@@ -1,0 +1,3 @@
+package l;
+public interface Pair<S, T> { }
+class Hidden { }

@@ -1,0 +1,2 @@
+package l;
+class Raw extends Box { }

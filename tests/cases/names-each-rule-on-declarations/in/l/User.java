@@ -1,0 +1,4 @@
+package l;
+class L {
+  A a;
+}

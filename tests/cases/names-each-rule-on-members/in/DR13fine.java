@@ -1,0 +1,2 @@
+class A { Object m() { return null; } }
+class B extends A { B[] m() { return null; } }

@@ -1,0 +1,3 @@
+interface I { void m(); }
+class A { public void m() throws Exception { } }
+abstract class B extends A implements I { }

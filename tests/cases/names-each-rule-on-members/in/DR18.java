@@ -1,0 +1,3 @@
+interface I { void m(); }
+abstract class A implements I { }
+  class B extends A { }

@@ -1,0 +1,3 @@
+interface I { String toString(); void m(); }
+class A { public void m() { } }
+class B extends A implements I { }

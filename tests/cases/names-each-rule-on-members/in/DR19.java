@@ -1,0 +1,3 @@
+interface I { int m(); }
+interface J { long m(); }
+interface K extends I, J { }

@@ -1,0 +1,3 @@
+interface I { int m(); }
+interface J { Object m(); }
+abstract class K implements I, J { }

@@ -1,0 +1,3 @@
+interface I { Object m(); }
+interface J { String m(); }
+interface K extends I, J { }

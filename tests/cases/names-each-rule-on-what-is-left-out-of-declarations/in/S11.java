@@ -1,0 +1,3 @@
+import l.*;
+class A { }
+  class B extends Box<String> { }

@@ -1,0 +1,2 @@
+import l.Below;
+class A extends Below { }

@@ -1,0 +1,2 @@
+import l.*;
+class B extends Box { }

@@ -1,0 +1,1 @@
+class A { java.lang.String s; }

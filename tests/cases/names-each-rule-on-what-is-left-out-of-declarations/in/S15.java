@@ -1,0 +1,2 @@
+package l;
+class A { }

@@ -1,0 +1,2 @@
+package java.io;
+class A { }

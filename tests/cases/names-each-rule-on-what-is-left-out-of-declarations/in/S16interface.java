@@ -1,0 +1,3 @@
+interface A {
+  String S = "s", T = ("t");
+}

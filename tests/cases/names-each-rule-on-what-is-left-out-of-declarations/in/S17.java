@@ -1,0 +1,4 @@
+import l.*;
+class A {
+  Box<A>[] a;
+}

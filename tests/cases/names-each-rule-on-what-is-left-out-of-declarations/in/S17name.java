@@ -1,0 +1,4 @@
+import l.*;
+class A {
+  void m(Box<A> a[]) { }
+}

@@ -1,0 +1,4 @@
+class A {
+  void notify(int a) { }
+  void clone() { }
+}

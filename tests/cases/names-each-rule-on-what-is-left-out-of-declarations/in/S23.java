@@ -1,0 +1,3 @@
+class A { }
+class B { }
+interface A { }

@@ -1,0 +1,5 @@
+package l;
+class A {
+  int a;
+  protected int b;
+}

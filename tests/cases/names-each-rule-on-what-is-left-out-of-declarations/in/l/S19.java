@@ -1,0 +1,4 @@
+package l;
+interface A {
+  void finalize();
+}

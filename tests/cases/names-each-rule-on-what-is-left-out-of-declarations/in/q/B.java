@@ -1,0 +1,4 @@
+
+// the other package
+  package q;
+class B { }

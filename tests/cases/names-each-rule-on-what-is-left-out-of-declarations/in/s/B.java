@@ -1,0 +1,2 @@
+package s;
+class B { }

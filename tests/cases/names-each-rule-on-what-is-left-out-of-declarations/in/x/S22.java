@@ -1,0 +1,2 @@
+package String.x;
+class A { }

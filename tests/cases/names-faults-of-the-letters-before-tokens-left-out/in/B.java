@@ -1,0 +1,2 @@
+enum A { }
+class B { int a = 0x; }

@@ -1,0 +1,2 @@
+@A class C {
+  char c = 'ab'; }

@@ -1,0 +1,1 @@
+class F { int a = 08; double d; }

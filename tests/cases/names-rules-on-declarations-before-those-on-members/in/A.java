@@ -1,0 +1,2 @@
+class A { String toString() { return null; } }
+class B { int a; int a; }

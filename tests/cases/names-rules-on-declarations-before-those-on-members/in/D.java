@@ -1,0 +1,3 @@
+interface I { void m(); }
+class A implements I { }
+class B implements I, I { }

@@ -1,0 +1,1 @@
+class E { int hashCode() { return 1; } }

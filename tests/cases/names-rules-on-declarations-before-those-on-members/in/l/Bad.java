@@ -1,0 +1,2 @@
+package l;
+class Bad { Missing a; }

@@ -1,0 +1,4 @@
+class A {
+  int a;
+  String toString() { return null; }
+}

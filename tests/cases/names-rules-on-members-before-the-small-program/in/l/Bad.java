@@ -1,0 +1,2 @@
+package l;
+class Bad { int hashCode() { return 1; } }

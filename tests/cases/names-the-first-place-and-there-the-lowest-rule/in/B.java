@@ -1,0 +1,3 @@
+import l.*;
+class B extends Box<B> { }
+class B<T> { }

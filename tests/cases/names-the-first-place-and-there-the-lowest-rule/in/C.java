@@ -1,0 +1,2 @@
+import l.*;
+class C { Box<l.Box<C>[]> a; }

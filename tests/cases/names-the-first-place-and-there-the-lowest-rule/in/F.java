@@ -1,0 +1,3 @@
+class F { }
+class F { }
+class G<T> { }

@@ -1,0 +1,1 @@
+class G { java.lang.String wait() { return null; } }

@@ -1,0 +1,3 @@
+package H;
+class H { }
+class H { }

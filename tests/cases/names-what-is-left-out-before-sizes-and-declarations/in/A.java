@@ -1,0 +1,2 @@
+class A extends A { void m() { } void m() { } }
+class String { }

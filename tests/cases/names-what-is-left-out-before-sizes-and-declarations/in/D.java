@@ -1,0 +1,2 @@
+class D { public boolean equals(Object o) { return true; } int hashCode() { return 1; } }
+interface E { int clone(); }

@@ -1,0 +1,2 @@
+class A { float f; }
+// a \u0041

@@ -1,0 +1,2 @@
+class A { char c = ''; }
+/* not closed
