@@ -20,7 +20,7 @@ use Rattle.java_parse_term.specs.Marks.{◌>>=◌, is_mark, is_keyword, after_wo
 use Rattle.java_parse_term.specs.Types.{type_end, pair_end}
 use Rattle.java_parse_term.proofs.Steps.{is_mark_has, is_mark_not, is_keyword_has, is_keyword_not, after_mark_has, after_mark_not, after_keyword_has, after_keyword_not, after_word_has, after_word_says}
 use Rattle.java_parse_term.proofs.TypesComplete.{within, closed_at, brackets_from, name_is}
-use Rattle.java_parse_expr.specs.Parse.{Part, is_statement, is_constant, is_label_value, is_empty, equals_in, after_equals, is_label, is_no_label, is_no_catch, is_try_part, is_stop, after_final, after_name, is_declared, is_each, type_under, expr_under, list_of, values, init, var, vars, local, param, performed, first, test, perhaps, stmts, block_in, case_label, default_label, label, more_labels, labels, group, groups, caught, catches, block, empty, local_stmt, value, otherwise, choice, while_stmt, do_while, start, update, counted_end, counted, each_end, each, for_stmt, switch_stmt, break_stmt, continue_stmt, return_stmt, throw_stmt, with_last, without_last, try_stmt, this_call, super_call, this_stmt, super_stmt, other, by_sort, level, under}
+use Rattle.java_parse_expr.specs.Parse.{Part, is_statement, is_constant, is_label_value, is_empty, equals_in, after_equals, is_label, is_no_label, is_no_catch, is_try_part, is_stop, after_final, after_name, is_declared, is_each, type_under, expr_under, list_of, values, init, var, vars, local, param, performed, first, parenthesized, perhaps, stmts, block_in, case_label, default_label, label, more_labels, labels, group, groups, caught, catches, block, empty, local_stmt, value, otherwise, choice, while_stmt, do_while, start, update, counted_end, counted, each_end, each, for_stmt, switch_stmt, break_stmt, continue_stmt, return_stmt, throw_stmt, with_last, without_last, try_stmt, this_call, super_call, this_stmt, super_stmt, other, by_sort, level, under}
 use Rattle.java_parse_expr.proofs.Begins.{begins, may_begin, no_begin, type_begin, type_begins, local_begin, local_begins, no_stmt, block_begins}
 use Rattle.java_parse_expr.proofs.Declared.{is_self, statement_no_type, statement_no_call}
 use Rattle.java_parse_expr.proofs.Lists.{Rest, Run, got, list_again, many_again}
@@ -518,8 +518,8 @@ module _ (text : List ℕ) (ts : List Tok)
 
   module _ (h : ℕ) (below : Bool → Bool → ℕ → Option (Part Stmt))
       (again : (inner w : Bool) (x : Stmt) (i j : ℕ) → SpellsStmt text ts w x i j → stmt_depth x < lower inner h → below inner w i ≡ got x j) where
-    test_again : (e : Expr) (i j : ℕ) → IsTest text ts e i j → expr_depth e < h → test text ts h below i ≡ got e j
-    unfolding test
+    test_again : (e : Expr) (i j : ℕ) → IsTest text ts e i j → expr_depth e < h → parenthesized text ts h below i ≡ got e j
+    unfolding parenthesized
     test_again e i j (open_is, a, p, close_is, next) low =
         rw (after_mark_has ts m.Open i open_is, exprs h 14 (omega arith) (omega arith) e (i + 1) a p low (rw close_is tt), after_mark_has ts m.Close a close_is, next) refl
 

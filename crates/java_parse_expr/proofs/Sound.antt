@@ -19,7 +19,7 @@ use Rattle.java_parse_term.specs.Marks.{given, is_mark, is_keyword, after_mark, 
 use Rattle.java_parse_term.proofs.Steps.{step, step_mark, step_keyword, step_word, step_if, step_unless, step_either, step_given, some_true, none_true, is_mark_says, is_keyword_says, is_keyword_has, after_mark_says, after_keyword_says, after_keyword_has}
 use Rattle.java_parse_term.proofs.TypesSound.{brackets_are}
 use Rattle.java_parse_expr.specs.Parse as read
-use Rattle.java_parse_expr.specs.Parse.{Part, is_statement, is_constant, is_label_value, is_empty, equals_in, after_equals, is_label, is_no_label, is_no_catch, is_try_part, is_stop, after_final, type_under, expr_under, many, more, list_of, dims_at, values, init, var, vars, local, param, performed, first, test, perhaps, stmts, block_in, case_label, default_label, label, more_labels, labels, group, groups, caught, catches, block, empty, local_stmt, value, otherwise, choice, while_stmt, do_while, start, update, counted_end, counted, each_end, each, for_stmt, switch_stmt, break_stmt, continue_stmt, return_stmt, throw_stmt, with_last, without_last, try_stmt, this_call, super_call, this_stmt, super_stmt, other, by_sort, level, under}
+use Rattle.java_parse_expr.specs.Parse.{Part, is_statement, is_constant, is_label_value, is_empty, equals_in, after_equals, is_label, is_no_label, is_no_catch, is_try_part, is_stop, after_final, type_under, expr_under, many, more, list_of, dims_at, values, init, var, vars, local, param, performed, first, parenthesized, perhaps, stmts, block_in, case_label, default_label, label, more_labels, labels, group, groups, caught, catches, block, empty, local_stmt, value, otherwise, choice, while_stmt, do_while, start, update, counted_end, counted, each_end, each, for_stmt, switch_stmt, break_stmt, continue_stmt, return_stmt, throw_stmt, with_last, without_last, try_stmt, this_call, super_call, this_stmt, super_stmt, other, by_sort, level, under}
 use Rattle.java_parse_expr.proofs.Lists.{Rest, Run, list_fine, many_fine}
 use Rattle.java_parse_expr.proofs.Begins.{block_is}
 
@@ -239,8 +239,8 @@ module _ (text : List ℕ) (ts : List Tok)
 
   module _ (h : ℕ) (below : Bool → Bool → ℕ → Option (Part Stmt))
       (fine : (inner w : Bool) (i : ℕ) (g : Part Stmt) → below inner w i ≡ Some g → SpellsStmt text ts w g.tree i g.next × (stmt_depth g.tree < lower inner h)) where
-    test_fine : (i : ℕ) (g : Part Expr) → test text ts h below i ≡ Some g → IsTest text ts g.tree i g.next × (expr_depth g.tree < h)
-    unfolding test
+    test_fine : (i : ℕ) (g : Part Expr) → parenthesized text ts h below i ≡ Some g → IsTest text ts g.tree i g.next × (expr_depth g.tree < h)
+    unfolding parenthesized
     test_fine i g e =
         step_mark ts m.Open i _ g e (λ open_is e1.
         step (expr_under text ts h 14 (i + 1)) _ g e1 (λ one got e2.
@@ -466,7 +466,7 @@ module _ (text : List ℕ) (ts : List Tok)
     unfolding choice otherwise
     choice_fine w i g e =
         step_keyword ts kw.If i _ g e (λ word e1.
-        step (test text ts h below (i + 1)) _ g e1 (λ test got e2.
+        step (parenthesized text ts h below (i + 1)) _ g e1 (λ test got e2.
         step (below false false test.next) _ g e2 (λ x got' e3.
         let p = test_fine (i + 1) test got in
         let q = fine false false test.next x got' in
@@ -485,7 +485,7 @@ module _ (text : List ℕ) (ts : List Tok)
     unfolding while_stmt
     while_fine w i g e =
         step_keyword ts kw.While i _ g e (λ word e1.
-        step (test text ts h below (i + 1)) _ g e1 (λ test got e2.
+        step (parenthesized text ts h below (i + 1)) _ g e1 (λ test got e2.
         step (below false false test.next) _ g e2 (λ x got' same.
         let p = test_fine (i + 1) test got in
         let q = fine false false test.next x got' in
@@ -497,7 +497,7 @@ module _ (text : List ℕ) (ts : List Tok)
         step_keyword ts kw.Do i _ g e (λ word e1.
         step (below false false (i + 1)) _ g e1 (λ x got e2.
         step_keyword ts kw.While x.next _ g e2 (λ word' e3.
-        step (test text ts h below (x.next + 1)) _ g e3 (λ test got' e4.
+        step (parenthesized text ts h below (x.next + 1)) _ g e3 (λ test got' e4.
         step_mark ts m.Semicolon test.next _ g e4 (λ semi same.
         let p = fine false false (i + 1) x got in
         let q = test_fine (x.next + 1) test got' in
@@ -600,7 +600,7 @@ module _ (text : List ℕ) (ts : List Tok)
     unfolding switch_stmt
     switch_fine w i g e =
         step_keyword ts kw.Switch i _ g e (λ word e1.
-        step (test text ts h below (i + 1)) _ g e1 (λ test got e2.
+        step (parenthesized text ts h below (i + 1)) _ g e1 (λ test got e2.
         step_mark ts m.LeftBrace test.next _ g e2 (λ open_is e3.
         step (groups text ts h below (test.next + 1)) _ g e3 (λ gs got' e4.
         step_mark ts m.RightBrace gs.next _ g e4 (λ close_is same.

@@ -182,8 +182,8 @@ module _ (text : List ℕ) (ts : List Tok) where
 
   -- `below inner in_block i` reads a statement of depth less than h, or one of depth less than h - 1 if it is for an inner node.
   module _ (h : ℕ) (below : Bool → Bool → ℕ → Option (Part Stmt)) where
-    unfoldable pub test : ℕ → Option (Part Expr)
-    test i = do
+    unfoldable pub parenthesized : ℕ → Option (Part Expr)
+    parenthesized i = do
       a ← after_mark ts m.Open i
       g ← expr_under h 14 a
       next ← after_mark ts m.Close g.next
@@ -280,14 +280,14 @@ module _ (text : List ℕ) (ts : List Tok) where
     unfoldable pub choice : ℕ → Option (Part Stmt)
     choice i = do
       a ← after_keyword ts kw.If i
-      e ← test a
+      e ← parenthesized a
       x ← below false false e.next
       given (after_keyword ts kw.Else x.next) (otherwise i e x) (Some (made (λ n. t.If n e.tree x.tree t.NoStmt) i x.next))
 
     unfoldable pub while_stmt : ℕ → Option (Part Stmt)
     while_stmt i = do
       a ← after_keyword ts kw.While i
-      e ← test a
+      e ← parenthesized a
       x ← below false false e.next
       Some (made (λ n. t.While n e.tree x.tree) i x.next)
 
@@ -296,7 +296,7 @@ module _ (text : List ℕ) (ts : List Tok) where
       a ← after_keyword ts kw.Do i
       x ← below false false a
       b ← after_keyword ts kw.While x.next
-      e ← test b
+      e ← parenthesized b
       next ← after_mark ts m.Semicolon e.next
       Some (made (λ n. t.Do n x.tree e.tree) i next)
 
@@ -347,7 +347,7 @@ module _ (text : List ℕ) (ts : List Tok) where
     unfoldable pub switch_stmt : ℕ → Option (Part Stmt)
     switch_stmt i = do
       a ← after_keyword ts kw.Switch i
-      e ← test a
+      e ← parenthesized a
       b ← after_mark ts m.LeftBrace e.next
       gs ← groups b
       next ← after_mark ts m.RightBrace gs.next

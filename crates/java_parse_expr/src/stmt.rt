@@ -60,10 +60,10 @@ impl<
     }
 
     // An expression in brackets.
-    #[tactic(auto, unfolding(crate::specs::Parse::test))]
+    #[tactic(auto, unfolding(crate::specs::Parse::parenthesized))]
     fn test(&self, at: usize) -> Result<Got<Boxed<Expr>>, SyntaxFault>
         requires { Nests self.now.source.text.now self.now.source.toks.now self.now.limit (F.pre self.now.below) (F.post self.now.below) }
-        ensures { Reads (seen plain) (at_depth spec.test self.now.source.text.now self.now.source.toks.now self.now.limit at) result }
+        ensures { Reads (seen plain) (at_depth spec.parenthesized self.now.source.text.now self.now.source.toks.now self.now.limit at) result }
     {
         let toks = self.source.toks;
         let first = need(after_mark(toks, Mark::Open, at), at)?;
