@@ -1,3 +1,4 @@
+pub mod Clauses
 pub mod Firsts
 pub mod Judging
 pub mod Laws

@@ -1,5 +1,5 @@
 -- Words of the searches for the first of these rules that is broken.
-use Rattle.std.specs.Prelude.{◌≡◌, ℕ, ◌≤◌, ◌⊎◌, Bool, true, List, Option, Some, None, slice_get, length, min, ◌+◌, ◌==◌, if◌then◌else◌, sum_by}
+use Rattle.std.specs.Prelude.{◌≡◌, ℕ, ◌≤◌, ◌⊎◌, ◌↔◌, Bool, true, List, [], Option, Some, None, slice_get, length, min, ◌+◌, ◌==◌, if◌then◌else◌, sum_by}
 use Rattle.std.specs.List.{Contains}
 use Rattle.rule_order.specs.declared.Breach.{Breach}
 use Rattle.rule_order.specs.First.{Breaches}
@@ -8,7 +8,8 @@ use Rattle.class_world.specs.declared.world.TypeInfo.{TypeInfo}
 use Rattle.class_world.specs.declared.world.MethodInfo.{MethodInfo}
 use Rattle.class_world.specs.declared.world.JavaType.{JavaType}
 use Rattle.class_world.specs.Subtypes.{Subtype}
-use Rattle.class_world.specs.Sound.{IsKnown, IsOfWorld}
+use Rattle.class_world.specs.declared.world.JavaType.TheVariants as ty
+use Rattle.class_world.specs.Sound.{IsKnown, IsOfWorld, IsSet}
 use Rattle.class_world.specs.Signatures.{IsMethod, AgreeBelow}
 use Rattle.class_world.specs.Inheritance.{DeclaresMethod}
 use Rattle.class_world.specs.Overriding.{Replaces, MeetIn}
@@ -45,6 +46,24 @@ AreOfWorld w ts = (t : JavaType) → Contains ts t → IsOfWorld w t
 
 abbrev pub ResultIsOfWorld : World → Option JavaType → Type 0
 ResultIsOfWorld w r = (t : JavaType) → r ≡ Some t → IsOfWorld w t
+
+-- ---- throws clauses
+
+abbrev pub IsBelowOne : World → JavaType → List JavaType → Type 0
+IsBelowOne w e upper = (f : JavaType) × Contains upper f × Subtype w e f
+
+-- Each of the types is a class without arguments, and the words have the bits of these classes.
+pub record AreClassBits (types : List JavaType) (words : List ℕ) : Type 0 where
+  pub classes : (t : JavaType) → Contains types t → (g : ℕ) × (t ≡ ty.Class g [])
+  pub bits : (g : ℕ) → IsSet words g ↔ Contains types (ty.Class g [])
+
+-- the words have the bits of the classes whose types without arguments are above the type
+abbrev pub AreAbove : World → JavaType → List ℕ → Type 0
+AreAbove w t words = (g : ℕ) → IsSet words g ↔ Subtype w t (ty.Class g [])
+
+-- a bit is set in both
+abbrev pub HaveCommonBit : List ℕ → List ℕ → Type 0
+HaveCommonBit a b = (g : ℕ) × IsSet a g × IsSet b g
 
 -- one of the types is checked and below none of the upper ones
 abbrev pub NamesMore : World → List JavaType → List JavaType → Type 0

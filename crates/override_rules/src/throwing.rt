@@ -1,24 +1,26 @@
 //! Throws clauses (JLS 3rd edition, 8.4.8.3 and 11.2).
 
-ghost use Rattle.std.specs.Prelude.{◌↔◌, [], IsTrue, IfOk};
-ghost use Rattle.std.specs.List.{Contains};
-ghost use Rattle.class_world.specs.declared.world.JavaType as types;
+ghost use Rattle.std.specs.Prelude.{◌↔◌, [], IsTrue, IfOk, IfSome};
 ghost use Rattle.class_world.specs.declared.world.JavaType.TheVariants as ty;
 ghost use Rattle.class_world.specs.Subtypes.{Subtype};
 ghost use Rattle.class_world.specs.Sound.{IsOfWorld, IsSound};
-ghost use Rattle.override_rules.specs.Judged.{AreOfWorld, HasKnownOwner, NamesMore};
+ghost use Rattle.override_rules.specs.Judged.{AreClassBits, AreOfWorld, HasKnownOwner, IsBelowOne, NamesMore};
 ghost use Rattle.override_rules.specs.Rules.{IsUncheckedException, ThrowsMore};
 ghost use Rattle.class_world.specs.Typed.{HaveTypes};
 
+use crate::bits::{bits_above, class_bits, have_common_bit};
 use crate::over::method;
 use class_world::{JavaType, World, is_sub, super_as};
-use java_tree::NoMemory;
+use java_tree::{Items, NoMemory};
 use std::alloc::Global;
 
 /// The numbers of two built-in types.
 const ERROR: u32 = 6;
 
 const RUNTIME_EXCEPTION: u32 = 7;
+
+/// The most types that are held against others one by one.
+const FEW: usize = 64;
 
 /// Whether the class `g` without arguments is above a type.
 fn is_below_class(alloc: Global, w: &World, t: &JavaType, g: u32) -> Result<bool, NoMemory>
@@ -44,12 +46,12 @@ fn is_unchecked_exception(alloc: Global, w: &World, t: &JavaType) -> Result<bool
     is_below_class(alloc, w, t, ERROR)
 }
 
-/// Whether a type is below one of several.
+/// Whether a type is below one of several, by holding it against each.
 fn is_below_one(w: &World, e: &JavaType, upper: &[JavaType]) -> bool
     requires sound { IsSound w.now }
     requires lower { IsOfWorld w.now e.now }
     requires upper { AreOfWorld w.now upper.now }
-    ensures { IsTrue result ↔ ((f : types.JavaType) × Contains upper.now f × Subtype w.now e.now f) }
+    ensures { IsTrue result ↔ IsBelowOne w.now e.now upper.now }
 {
     for f in upper {
         if is_sub(w, e, f) {
@@ -57,6 +59,60 @@ fn is_below_one(w: &World, e: &JavaType, upper: &[JavaType]) -> bool
         }
     }
     false
+}
+
+/// The bits of the upper classes; `None` where the types are few, or one of them is no class without arguments.
+fn bits_of_many(
+    alloc: Global,
+    w: &World,
+    upper: &[JavaType],
+) -> Result<Option<Items<u64>>, NoMemory>
+    requires { AreOfWorld w.now upper.now }
+    ensures { IfOk result (λ o. IfSome o (λ words. AreClassBits upper.now words)) }
+{
+    if upper.len() <= FEW {
+        return Ok(None);
+    }
+    class_bits(alloc, w, upper)
+}
+
+/// Whether a type is below one of several, by the bits of their classes where there are such.
+fn is_below_some(w: &World, e: &JavaType, upper: &[JavaType], bits: &Option<Items<u64>>) -> bool
+    requires sound { IsSound w.now }
+    requires lower { IsOfWorld w.now e.now }
+    requires upper { AreOfWorld w.now upper.now }
+    requires bits { IfSome bits.now (λ words. AreClassBits upper.now words) }
+    ensures { IsTrue result ↔ IsBelowOne w.now e.now upper.now }
+{
+    match bits {
+        Some(words) => match bits_above(w, e) {
+            Some(row) => have_common_bit(row, words.as_slice()),
+            None => is_below_one(w, e, upper),
+        },
+        None => is_below_one(w, e, upper),
+    }
+}
+
+/// Whether one of the types is checked and below none of the upper ones, whose bits are given where they are many.
+fn names_more_than(
+    alloc: Global,
+    w: &World,
+    lower: &[JavaType],
+    upper: &[JavaType],
+    bits: &Option<Items<u64>>,
+) -> Result<bool, NoMemory>
+    requires sound { IsSound w.now }
+    requires lower { AreOfWorld w.now lower.now }
+    requires upper { AreOfWorld w.now upper.now }
+    requires bits { IfSome bits.now (λ words. AreClassBits upper.now words) }
+    ensures { IfOk result (λ r. IsTrue r ↔ NamesMore w.now lower.now upper.now) }
+{
+    for e in lower {
+        if !is_below_some(w, e, upper, bits) && !is_unchecked_exception(alloc, w, e)? {
+            return Ok(true);
+        }
+    }
+    Ok(false)
 }
 
 /// Whether one of the types is checked and below none of the upper ones.
@@ -71,15 +127,16 @@ fn names_more(
     requires upper { AreOfWorld w.now upper.now }
     ensures { IfOk result (λ r. IsTrue r ↔ NamesMore w.now lower.now upper.now) }
 {
-    for e in lower {
-        if !is_below_one(w, e, upper) && !is_unchecked_exception(alloc, w, e)? {
-            return Ok(true);
-        }
+    if lower.is_empty() {
+        return Ok(false);
     }
-    Ok(false)
+    let bits = bits_of_many(alloc, w, upper)?;
+    names_more_than(alloc, w, lower, upper, &bits)
 }
 
-/// Whether the throws clause of `m` names a checked class that is not below one of those of `k`. Takes time for their pairs.
+/// Whether the throws clause of `m` names a checked class that is not below one of those of `k`. Takes time for the names of `k`'s clause, and for each of `m`'s that of at most as many words as there are types by 64, or of 64 names.
+///
+/// That holds where both clauses name classes without parameters only, as in each program that breaks none of the rules on types. A class with parameters or another type in `m`'s clause is held against each of `k`'s, and so are all where there is one in `k`'s.
 pub(crate) fn throws_more(alloc: Global, w: &World, m: u32, k: u32) -> Result<bool, NoMemory>
     requires sound { IsSound w.now }
     requires typed { HaveTypes w.now }

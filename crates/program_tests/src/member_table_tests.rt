@@ -277,7 +277,7 @@ const OBJECTS: [Case<'static>; 7] = [
 ];
 
 /// DR13 to DR17.
-const OVERRIDING_RULES: [Case<'static>; 41] = [
+const OVERRIDING_RULES: [Case<'static>; 43] = [
     (
         "class A { long m() { return 1; } } class B extends A { int m() { return 1; } }",
         &[Refused(13, "B.m")],
@@ -398,6 +398,15 @@ const OVERRIDING_RULES: [Case<'static>; 41] = [
     (
         "class A { void m() throws Exception { } } class B extends A { void m() { } } class C extends B { void m() throws Exception { } }",
         &[Refused(15, "C.m")],
+    ),
+    // More than 64 names, of which the last one counts.
+    (
+        "class R extends Error { } class E extends Exception { } class F extends E { } class A { void m() throws R, R, R, R, R, R, R, R, R, R, R, R, R, R, R, R, R, R, R, R, R, R, R, R, R, R, R, R, R, R, R, R, R, R, R, R, R, R, R, R, R, R, R, R, R, R, R, R, R, R, R, R, R, R, R, R, R, R, R, R, R, R, R, R, E { } } class B extends A { void m() throws R, F { } }",
+        &[Over("B.m", "A.m")],
+    ),
+    (
+        "class R extends Error { } class E extends Exception { } class F extends E { } class A { void m() throws R, R, R, R, R, R, R, R, R, R, R, R, R, R, R, R, R, R, R, R, R, R, R, R, R, R, R, R, R, R, R, R, R, R, R, R, R, R, R, R, R, R, R, R, R, R, R, R, R, R, R, R, R, R, R, R, R, R, R, R, R, R, R, R, F { } } class B extends A { void m() throws R, E { } }",
+        &[Refused(15, "B.m")],
     ),
     (
         "class A { public void m() { } } class B extends A { public final void m() { } }",
