@@ -3,6 +3,7 @@ pub mod Homes
 pub mod Keys
 pub mod Truths
 pub mod Opens
+pub mod Trees
 pub mod Demands
 pub mod Held
 pub mod Breaches

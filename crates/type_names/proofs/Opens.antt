@@ -13,7 +13,8 @@ use Rattle.java_tree.specs.declared.tree.Import.{Import}
 use Rattle.type_names.specs.declared.firsts.FirstTypes.{FirstTypes}
 use Rattle.type_names.specs.Known.{KnownType, File}
 use Rattle.type_names.specs.Sees.{same_path, full_name, is_open}
-use Rattle.type_names.specs.Tables.{number_in, place_in, brief, least, fits, first_at, open_key, is_open_in, is_named_by, is_open_among, HoldsTypes}
+use Rattle.type_names.specs.Paths.{number_in, place_in}
+use Rattle.type_names.specs.Tables.{brief, least, fits, first_at, open_key, is_open_in, is_named_by, is_open_among, HoldsTypes}
 use Rattle.type_names.proofs.Lists.{place_map, place_same}
 use Rattle.type_names.proofs.Truths.{both_same, and_no, or_no, key_tests, last_tests, apart_tests, either_tests}
 

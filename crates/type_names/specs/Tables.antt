@@ -1,7 +1,6 @@
 -- The tables by which a name is looked up: what each holds.
-use Rattle.std.specs.Prelude.{◌≡◌, ℕ, Bool, ◌&&◌, ◌||◌, not, nat_eq, nat_le, if◌then◌else◌, List, ◌∷◌, map, length, Option, Some, None, slice_get}
+use Rattle.std.specs.Prelude.{◌≡◌, ◌↔◌, ℕ, Bool, false, ◌&&◌, ◌||◌, not, nat_eq, nat_le, if◌then◌else◌, List, ◌∷◌, map, length, Option, Some, None, slice_get}
 use Rattle.std.specs.List.{list_any, position_from}
-use Rattle.std.specs.Option.{unwrap_or}
 use Rattle.std.specs.HashMap.{get}
 use Rattle.std.specs.Bool.{beq}
 use Rattle.java_tree.specs.declared.tree.Name.{Name}
@@ -15,17 +14,15 @@ use Rattle.type_names.specs.declared.files.FileNames.{FileNames}
 use Rattle.type_names.specs.declared.table.TypeNames.{TypeNames}
 use Rattle.type_names.specs.Known.{KnownType, File, types_of, lang_package, io_package}
 use Rattle.type_names.specs.Sees.{same_path, full_name, is_open}
+use Rattle.type_names.specs.Paths.{number_in, place_in, HasPath}
 
 -- the packages of the program: those of built-in types, then each file's
 abbrev pub packages : JavaNames → List File → List (List Name)
 packages j fs = lang_package j ∷ io_package j ∷ map (λ f. f.unit.«package») fs
 
--- the number of a package: its first place among them
-abbrev pub number_in : List (List Name) → List Name → Option ℕ
-number_in ps path = position_from (λ p. same_path p path) 0 ps
-
-abbrev pub place_in : List (List Name) → List Name → ℕ
-place_in ps path = unwrap_or (number_in ps path) 0
+-- these are the packages of the library files
+abbrev pub AreLibrary : List (List Name) → List File → Type 0
+AreLibrary ps fs = (path : List Name) → HasPath ps path ↔ ((i : ℕ) × (f : File) × (slice_get fs i ≡ Some f) × (f.user ≡ false) × (path ≡ f.unit.«package»))
 
 -- a type with its package by number
 abbrev pub brief : List (List Name) → KnownType → code.Known
@@ -74,6 +71,10 @@ is_named_by f is x t = nat_eq t.name.0 x && (is_open f t && list_any (λ (i : Im
 abbrev pub is_open_among : File → List (List Name) → List ℕ → ℕ → KnownType → Bool
 is_open_among f ps d x t = nat_eq t.name.0 x && (is_open f t && list_any (λ y. nat_eq y (place_in ps t.«package»)) d)
 
+-- the numbers of a set are those of a list
+abbrev pub AreSame : (ℕ → Bool) → List ℕ → Type 0
+AreSame has d = (p : ℕ) → has p ≡ list_any (λ y. nat_eq y p) d
+
 -- whether a file imports a package on demand, by itself or as each file does
 abbrev pub has_on_demand : JavaNames → List Import → List Name → Bool
 has_on_demand j is path = same_path path (lang_package j) || list_any (λ (i : Import). i.all && same_path path i.path) is
@@ -98,6 +99,7 @@ pub record HoldsFiles (ps : List (List Name)) (j : JavaNames) (ts : List KnownTy
 -- The table is that of the program with these files.
 pub record StandsFor (t : TypeNames) (j : JavaNames) (fs : List File) : Type 0 where
   pub homes : t.packages ≡ packages j fs
+  pub library : AreLibrary t.library fs
   pub types : HoldsTypes t.packages t.firsts (types_of j fs)
   pub files : HoldsFiles t.packages j (types_of j fs) fs t.files.items
 

@@ -6,6 +6,7 @@ mod firsts;
 mod imports;
 mod known;
 mod packages;
+mod paths;
 mod rules;
 mod table;
 

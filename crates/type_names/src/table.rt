@@ -7,19 +7,22 @@ ghost use Rattle.java_tree.specs.View.{unit_plain};
 ghost use Rattle.type_names.specs.declared.known.JavaNames as spec_java;
 ghost use Rattle.type_names.specs.Known.{KnownType, File, types_of, files_of};
 ghost use Rattle.type_names.specs.Sees.{meant};
-ghost use Rattle.type_names.specs.Tables.{number_in, is_open_among, files_in, HoldsTypes, HoldsFiles, HaveHomes, StandsFor};
+ghost use Rattle.type_names.specs.Paths.{number_in};
+ghost use Rattle.type_names.specs.Tables.{is_open_among, files_in, HoldsTypes, HoldsFiles, HaveHomes, StandsFor};
 
 use crate::files::{FileNames, Home, least};
 use crate::firsts::FirstTypes;
-use crate::known::{JavaNames, known_types, packages_of};
+use crate::known::{JavaNames, known_types, library_of, packages_of};
+use crate::paths::Packages;
+use java_tree::NoMemory;
 use java_tree::tree::{Name, SourceUnit};
-use java_tree::{Items, NoMemory};
 use std::alloc::Global;
 
 /// The types of a program by their names, and what each file sees of them.
 #[derive(Drop)]
 pub struct TypeNames {
-    pub(crate) packages: Items<Items<Name>>,
+    pub(crate) packages: Packages,
+    pub(crate) library: Packages,
     pub(crate) firsts: FirstTypes,
     files: Vec<FileNames>,
 }
@@ -35,17 +38,18 @@ impl TypeNames {
         ensures { IfOk result (λ t. StandsFor t java (files_of (map unit_plain user.now) (map unit_plain lib.now))) }
     {
         let packages = packages_of(alloc, java, user, lib)?;
-        let paths = packages.as_slice();
-        let types = known_types(alloc, java, paths, user, lib)?;
+        let library = library_of(alloc, lib)?;
+        let types = known_types(alloc, java, &packages, user, lib)?;
         if types.len() > u32::MAX as usize {
             return Err(NoMemory);
         }
         let firsts = FirstTypes::of(alloc, &types)?;
         let mut files = Vec::new(alloc);
-        push_files(alloc, java, paths, &firsts, user, true, &mut files)?;
-        push_files(alloc, java, paths, &firsts, lib, false, &mut files)?;
+        push_files(alloc, java, &packages, &firsts, user, true, &mut files)?;
+        push_files(alloc, java, &packages, &firsts, lib, false, &mut files)?;
         Ok(TypeNames {
             packages,
+            library,
             firsts,
             files,
         })
@@ -70,7 +74,7 @@ impl TypeNames {
 fn push_files(
     alloc: Global,
     java: JavaNames,
-    packages: &[Items<Name>],
+    packages: &Packages,
     firsts: &FirstTypes,
     units: &[SourceUnit],
     user: bool,

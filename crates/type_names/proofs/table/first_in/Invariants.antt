@@ -3,7 +3,8 @@ use Rattle.std.specs.Prelude.{slice_get}
 use Rattle.std.specs.List.{position_from}
 use Rattle.java_tree.specs.declared.tree.Name.{Name}
 use Rattle.type_names.specs.Known.{KnownType, File}
-use Rattle.type_names.specs.Tables.{number_in, is_open_among, HoldsTypes}
+use Rattle.type_names.specs.Paths.{number_in}
+use Rattle.type_names.specs.Tables.{is_open_among, HoldsTypes}
 use Rattle.type_names.proofs.table.first_in.Given as goal
 
 abbrev pub invariant-loop-package : goal.invariant-loop-package
