@@ -1,17 +1,16 @@
 -- Tests on packages and on imports.
-use Rattle.std.proofs.Common.{◌≡◌, ℕ, zero, suc, ◌+◌, ◌<◌, Bool, true, false, not, ◌&&◌, ◌||◌, ◌⊎◌, ◌↔◌, inl, inr, List, [], ◌∷◌, ◌++◌, map, take, Option, Some, None, refl, sym, ap, ◌∙◌, subst, length, get_or}
+use Rattle.std.proofs.Common.{◌≡◌, ℕ, zero, suc, Bool, true, false, not, ◌&&◌, ◌||◌, ◌⊎◌, ◌↔◌, inl, inr, List, [], ◌∷◌, ◌++◌, map, Option, Some, None, refl, sym, ap, ◌∙◌, subst}
 use Rattle.std.specs.Prelude.{slice_get, nat_eq, is_none}
 use Rattle.std.specs.List.{position_from}
 use Rattle.std.specs.Option.{option_map}
-use Rattle.std.proofs.lemmas.List.{take_more, map-append}
-use Rattle.std.proofs.lemmas.Option.{slice_get-map, slice_get_read}
+use Rattle.std.proofs.lemmas.Option.{slice_get-map}
 use Rattle.std.proofs.lemmas.Bool.{and_parts, and_from, true≢false}
 use Rattle.java_tree.specs.declared.tree.Name.{Name}
 use Rattle.java_tree.specs.declared.tree.SourceUnit as declared
 use Rattle.java_tree.specs.Plain.{SourceUnit}
 use Rattle.java_tree.specs.View.{unit_plain}
 use Rattle.type_names.specs.declared.known.JavaNames.{JavaNames}
-use Rattle.type_names.specs.Known.{KnownType, File, files_of, types_of, lang_package, io_package}
+use Rattle.type_names.specs.Known.{KnownType, File, types_of, lang_package, io_package}
 use Rattle.type_names.specs.Sees.{same_path, full_name, is_open}
 use Rattle.type_names.specs.Rules.{IsAt, NamesNoType, NamesNoPackage, NamesNothing, BreaksOnePackage, BreaksOwnPackage, BreaksNamedPackage, BreaksPackageName, BreaksImport}
 use Rattle.type_names.specs.Paths.{HasPath}

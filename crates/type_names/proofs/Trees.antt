@@ -1,5 +1,5 @@
 -- The tree of the names of packages.
-use Rattle.std.proofs.Common.{◌≡◌, ℕ, ◌+◌, ◌<◌, ◌≤◌, Bool, true, false, cond, nat_eq, List, [], ◌∷◌, ◌++◌, Option, Some, None, ◌⊎◌, inl, inr, reverse, refl, sym, ap, ◌∙◌, subst, length, get_or, take, drop, append_assoc, ◌↔◌, arith}
+use Rattle.std.proofs.Common.{◌≡◌, ℕ, ◌+◌, ◌<◌, Bool, true, false, cond, nat_eq, List, [], ◌∷◌, ◌++◌, Option, Some, None, ◌⊎◌, inl, inr, reverse, refl, sym, ap, ◌∙◌, subst, length, get_or, take, drop, append_assoc, ◌↔◌, arith}
 use Rattle.std.specs.Option.{option_and_then, option_or, is_some}
 use Rattle.std.proofs.lemmas.Bool.{and_parts, eqb-true, eq-eqb}
 use Rattle.std.proofs.lemmas.List.{reverse-reverse, reverse-append, append-nil, take_more, drop_more}
