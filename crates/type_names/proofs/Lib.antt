@@ -9,3 +9,4 @@ pub mod Held
 pub mod Breaches
 pub mod Tested
 pub mod Named
+pub mod NamedIn

@@ -1,7 +1,9 @@
 -- The tables by which a name is looked up: what each holds.
-use Rattle.std.specs.Prelude.{◌≡◌, ◌↔◌, ℕ, Bool, false, ◌&&◌, ◌||◌, not, nat_eq, nat_le, if◌then◌else◌, List, ◌∷◌, map, length, Option, Some, None, slice_get}
+use Rattle.std.specs.Prelude.{◌≡◌, ◌↔◌, ℕ, Bool, false, ◌&&◌, ◌||◌, not, nat_eq, nat_le, if◌then◌else◌, List, [], ◌∷◌, map, flat_map, length, Option, Some, None, slice_get}
 use Rattle.std.specs.List.{list_any, position_from}
+use Rattle.std.specs.Option.{unwrap_or}
 use Rattle.std.specs.HashMap.{get}
+use Rattle.std.specs.HashSet.{contains}
 use Rattle.std.specs.Bool.{beq}
 use Rattle.java_tree.specs.declared.tree.Name.{Name}
 use Rattle.java_tree.specs.declared.tree.Import.{Import}
@@ -10,6 +12,7 @@ use Rattle.type_names.specs.declared.known.JavaNames.{JavaNames}
 use Rattle.type_names.specs.declared.known.Known as code
 use Rattle.type_names.specs.declared.firsts.TypeKey.{TypeKey}
 use Rattle.type_names.specs.declared.firsts.FirstTypes.{FirstTypes}
+use Rattle.type_names.specs.declared.name_homes.NameHomes.{NameHomes}
 use Rattle.type_names.specs.declared.files.FileNames.{FileNames}
 use Rattle.type_names.specs.declared.table.TypeNames.{TypeNames}
 use Rattle.type_names.specs.Known.{KnownType, File, types_of, lang_package, io_package}
@@ -59,6 +62,20 @@ pub record HoldsTypes (ps : List (List Name)) (t : FirstTypes) (ts : List KnownT
   pub homes : (k : ℕ) (x : KnownType) → slice_get ts k ≡ Some x → number_in ps x.«package» ≡ Some (place_in ps x.«package»)
   pub firsts : (q : TypeKey) → first_at t q ≡ position_from (fits q) 0 (map (brief ps) ts)
 
+-- what a table has for a number, the empty list if it has nothing
+abbrev pub list_at : (ℕ → Option (List ℕ)) → ℕ → List ℕ
+list_at find x = unwrap_or (find x) []
+
+-- the packages of the types of a name, one for each
+abbrev pub homes_in : ℕ → List code.Known → List ℕ
+homes_in x = flat_map (λ (k : code.Known). if nat_eq k.name.0 x then k.«package» ∷ [] else [])
+
+abbrev pub homes_of : NameHomes → ℕ → List ℕ
+homes_of t = list_at (get nat_eq t.homes)
+
+abbrev pub AreHomes : List code.Known → NameHomes → Type 0
+AreHomes ts t = (x : ℕ) → homes_of t x ≡ homes_in x ts
+
 -- the open types of a name in a package
 abbrev pub is_open_in : File → List Name → ℕ → KnownType → Bool
 is_open_in f path x t = nat_eq t.name.0 x && (is_open f t && same_path t.«package» path)
@@ -75,6 +92,10 @@ is_open_among f ps d x t = nat_eq t.name.0 x && (is_open f t && list_any (λ y. 
 abbrev pub AreSame : (ℕ → Bool) → List ℕ → Type 0
 AreSame has d = (p : ℕ) → has p ≡ list_any (λ y. nat_eq y p) d
 
+-- the open types of a name in packages of these numbers that are in a set
+abbrev pub is_open_both : File → List (List Name) → (ℕ → Bool) → List ℕ → ℕ → KnownType → Bool
+is_open_both f ps has d x t = nat_eq t.name.0 x && (is_open f t && (has (place_in ps t.«package») && list_any (λ y. nat_eq y (place_in ps t.«package»)) d))
+
 -- whether a file imports a package on demand, by itself or as each file does
 abbrev pub has_on_demand : JavaNames → List Import → List Name → Bool
 has_on_demand j is path = same_path path (lang_package j) || list_any (λ (i : Import). i.all && same_path path i.path) is
@@ -89,7 +110,8 @@ pub record HoldsFile (ps : List (List Name)) (j : JavaNames) (ts : List KnownTyp
   pub home : number_in ps f.unit.«package» ≡ Some n.home.«package»
   pub user : n.home.user ≡ f.user
   pub singles : (x : ℕ) → get nat_eq n.singles x ≡ position_from (is_named_by f f.unit.imports x) 0 ts
-  pub demands : HoldsDemands ps j f.unit.imports n.on_demand.items
+  pub demands : HoldsDemands ps j f.unit.imports n.on_demand.numbers.items
+  pub seen : AreSame (contains nat_eq n.on_demand.seen) n.on_demand.numbers.items
 
 -- what is kept of each of a list of files
 pub record HoldsFiles (ps : List (List Name)) (j : JavaNames) (ts : List KnownType) (fs : List File) (ns : List FileNames) : Type 0 where
@@ -101,6 +123,7 @@ pub record StandsFor (t : TypeNames) (j : JavaNames) (fs : List File) : Type 0 w
   pub homes : t.packages ≡ packages j fs
   pub library : AreLibrary t.library fs
   pub types : HoldsTypes t.packages t.firsts (types_of j fs)
+  pub named : AreHomes (map (brief t.packages) (types_of j fs)) t.named
   pub files : HoldsFiles t.packages j (types_of j fs) fs t.files.items
 
 -- each of these files is in a package with a number

@@ -24,7 +24,7 @@ use std::collections::{HashMap, HashSet};
 pub(crate) struct FileNames {
     pub(crate) home: Home,
     pub(crate) singles: HashMap<u32, u32>,
-    pub(crate) on_demand: Vec<usize>,
+    pub(crate) on_demand: OnDemand,
 }
 
 impl FileNames {
@@ -55,6 +55,13 @@ impl FileNames {
     {
         self.singles.get(&name.0).copied()
     }
+}
+
+/// The packages that a file imports on demand, by number, as a list and as a set.
+#[derive(Drop)]
+pub(crate) struct OnDemand {
+    pub(crate) numbers: Vec<usize>,
+    pub(crate) seen: HashSet<usize>,
 }
 
 /// The package of a file, and whether it is a user file.
@@ -160,18 +167,18 @@ fn on_demand_of(
     java: JavaNames,
     packages: &Packages,
     imports: &[Import],
-) -> Result<Vec<usize>, NoMemory>
-    ensures { IfOk result (λ d. HoldsDemands packages.now java imports.now d.items) }
+) -> Result<OnDemand, NoMemory>
+    ensures { IfOk result (λ d. HoldsDemands packages.now java imports.now d.numbers.items × AreSame (contains nat_eq d.seen) d.numbers.items) }
 {
-    let mut on_demand = Vec::new(alloc);
+    let mut numbers = Vec::new(alloc);
     let mut seen = HashSet::new(alloc);
-    push_package(packages, &[java.java, java.lang], &mut seen, &mut on_demand)?;
+    push_package(packages, &[java.java, java.lang], &mut seen, &mut numbers)?;
     for import in imports {
         if import.all {
-            push_package(packages, import.path.as_slice(), &mut seen, &mut on_demand)?;
+            push_package(packages, import.path.as_slice(), &mut seen, &mut numbers)?;
         }
     }
-    Ok(on_demand)
+    Ok(OnDemand { numbers, seen })
 }
 
 /// Puts the number of a package to those seen, once, if it has one.

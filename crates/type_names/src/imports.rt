@@ -18,7 +18,7 @@ use java_tree::tree::{Import, Name, SourceUnit};
 use rule_order::{Breach, earlier};
 
 impl TypeNames {
-    /// The first import that names nothing (DR1), for the files that the table was made of.
+    /// The first import that names nothing (DR1), for the files that the table was made of. Takes no memory, and a look-up for each name that the imports write.
     pub fn first_import_breach(
         &self,
         java: JavaNames,

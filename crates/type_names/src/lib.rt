@@ -5,6 +5,7 @@ mod files;
 mod firsts;
 mod imports;
 mod known;
+mod name_homes;
 mod packages;
 mod paths;
 mod rules;

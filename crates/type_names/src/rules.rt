@@ -17,7 +17,7 @@ use rule_order::{Breach, earlier};
 use std::alloc::Global;
 use std::collections::HashSet;
 
-/// The first of the rules S14, S15, S20, S22 and S23 that is broken, with the number behind the S.
+/// The first of the rules S14, S15, S20, S22 and S23 that is broken, with the number behind the S. Takes time for the types and the names of packages.
 pub fn first_name_breach(
     alloc: Global,
     java: JavaNames,

@@ -3,7 +3,7 @@ use Rattle.std.specs.List.{position_from}
 use Rattle.java_tree.specs.declared.tree.Name.{Name}
 use Rattle.java_tree.specs.View.{unit_plain}
 use Rattle.type_names.specs.Known.{File, files_of, types_of}
-use Rattle.type_names.specs.Tables.{packages, fits, files_in}
+use Rattle.type_names.specs.Tables.{packages, homes_in, fits, files_in}
 use Rattle.type_names.proofs.Held.{types_held, library_held, user_homes, lib_homes, no_files}
 use Rattle.type_names.proofs.table.TypeNames.of.Goals as goal
 
@@ -18,4 +18,4 @@ returns c =
     let empty : c.new-files.result.items ≡ [] = search rules in
     let first = c.in_ok-push_files.ensures (types_of c.args.java fs) [] types (user_homes c.args.java user lib ps same) (no_files ps c.args.java (types_of c.args.java fs) c.new-files.result.items empty) in
     let second = c.in_ok-push_files-2.ensures (types_of c.args.java fs) (files_in true user) types (lib_homes c.args.java user lib ps same) first in
-    record { homes = same; library = library_held user lib c.in_ok-library.library c.in_ok-library.ensures; types = types; files = second }
+    record { homes = same; library = library_held user lib c.in_ok-library.library c.in_ok-library.ensures; types = types; named = λ x. c.in_ok-named.ensures x ∙ ap (homes_in x) (c.deref-2.ensures.value ∙ c.in_ok-types.ensures); files = second }
