@@ -422,3 +422,35 @@ fn a_library_file_imports_no_user_type(rt: HostRuntime) -> Result<(), Fail> {
     assert!(rt; import_breaks(alloc, &[here], &[], 0)?);
     Ok(())
 }
+
+#[test]
+fn packages_that_begin_alike_are_apart(rt: HostRuntime) -> Result<(), Fail> {
+    let alloc = rt.alloc();
+    let a = of(20, &["a"], &[(21, true, "T")]);
+    let ab = of(22, &["a", "b"], &[(23, true, "U")]);
+    let abc = of(24, &["a", "b", "c"], &[(25, true, "V")]);
+    let asks = Written {
+        id: 1,
+        package: &["shop"],
+        imports: &[
+            (2, true, &["a"]),
+            (3, false, &["a", "T"]),
+            (4, true, &["a", "b"]),
+            (5, false, &["a", "b", "U"]),
+            (6, true, &["a", "b", "c"]),
+            (7, false, &["a", "b", "c", "V"]),
+        ],
+        types: &[],
+    };
+    assert!(rt; import_breaks(alloc, &[asks], &[a, ab, abc], 0)?);
+    assert!(rt; import_breaks(alloc, &[asks], &[abc, ab, a], 0)?);
+    assert!(rt; import_breaks(alloc, &[asks], &[ab, abc], 2)?);
+    assert!(rt; import_breaks(alloc, &[asks], &[a, abc], 4)?);
+    assert!(rt; import_breaks(alloc, &[asks], &[abc, a], 4)?);
+    assert!(rt; import_breaks(alloc, &[asks], &[ab, a], 6)?);
+    let own = of(1, &["a", "b"], &[]);
+    assert!(rt; breaks(alloc, &[own], &[a, abc], 0, 0)?);
+    assert!(rt; breaks(alloc, &[own], &[abc, a], 0, 0)?);
+    assert!(rt; breaks(alloc, &[own], &[a, abc, ab], 1, 15)?);
+    Ok(())
+}

@@ -7,7 +7,8 @@ use Rattle.java_tree.specs.declared.tree.Import.{Import}
 use Rattle.type_names.specs.declared.known.JavaNames.{JavaNames}
 use Rattle.type_names.specs.Known.{lang_package}
 use Rattle.type_names.specs.Sees.{same_path}
-use Rattle.type_names.specs.Tables.{number_in, has_on_demand, HoldsDemands}
+use Rattle.type_names.specs.Paths.{number_in}
+use Rattle.type_names.specs.Tables.{has_on_demand, HoldsDemands}
 use Rattle.type_names.proofs.Lists.{any_more}
 use Rattle.type_names.proofs.Truths.{or_no, or_more, or_same}
 

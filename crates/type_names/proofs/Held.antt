@@ -5,6 +5,7 @@ use Rattle.std.specs.List.{position_from}
 use Rattle.std.specs.Option.{option_or, option_map, unwrap_or}
 use Rattle.std.proofs.lemmas.List.{take_more, map-append, length-append}
 use Rattle.std.proofs.lemmas.Option.{slice_get-map, slice_get_within, slice_get_read}
+use Rattle.std.proofs.lemmas.Bool.{true≢false}
 use Rattle.java_tree.specs.declared.tree.Name.{Name}
 use Rattle.java_tree.specs.declared.tree.SourceUnit as declared
 use Rattle.java_tree.specs.Plain.{SourceUnit}
@@ -15,7 +16,8 @@ use Rattle.type_names.specs.declared.firsts.TypeKey.{TypeKey}
 use Rattle.type_names.specs.declared.files.FileNames.{FileNames}
 use Rattle.type_names.specs.Known.{KnownType, File, files_of, types_in, types_of, lang_package, io_package, numbers_below, built_in_type, declared_type}
 use Rattle.type_names.specs.Sees.{same_path, is_open, is_on_demand, is_beside, is_imported, first_seen, meant}
-use Rattle.type_names.specs.Tables.{packages, number_in, place_in, brief, files_in, fits, first_at, is_open_among, is_named_by, is_open_in, HoldsTypes, HoldsDemands, HoldsFile, HoldsFiles, HaveHomes}
+use Rattle.type_names.specs.Paths.{number_in, place_in, HasPath}
+use Rattle.type_names.specs.Tables.{packages, brief, files_in, fits, first_at, is_open_among, is_named_by, is_open_in, HoldsTypes, HoldsDemands, HoldsFile, HoldsFiles, HaveHomes, AreLibrary}
 use Rattle.type_names.proofs.Lists.{get_push, place_same}
 use Rattle.type_names.proofs.Opens.{place_there, path_same}
 
@@ -58,7 +60,7 @@ append_none (x ∷ xs) = ap (λ ys. x ∷ ys) (append_none xs)
 pub has_home : (ps : List (List Name)) (k : ℕ) (p : List Name) → slice_get ps k ≡ Some p → number_in ps p ≡ Some (place_in ps p)
 has_home ps k p at = let there = place_there (λ r. same_path r p) 0 k ps p at (path_same p p refl) in there.1 ∙ ap Some (sym (ap (λ o. unwrap_or o 0) there.1))
 
-file_home : (j : JavaNames) (fs : List File) (k : ℕ) (f : File) → slice_get fs k ≡ Some f → slice_get (packages j fs) (suc (suc k)) ≡ Some f.unit.«package»
+pub file_home : (j : JavaNames) (fs : List File) (k : ℕ) (f : File) → slice_get fs k ≡ Some f → slice_get (packages j fs) (suc (suc k)) ≡ Some f.unit.«package»
 file_home j fs k f at = slice_get-map (λ (f : File). f.unit.«package») fs k ∙ ap (option_map (λ (f : File). f.unit.«package»)) at
 
 type_home : (j : JavaNames) (fs : List File) (k : ℕ) (t : KnownType) → slice_get (types_of j fs) k ≡ Some t → (i : ℕ) × (slice_get (packages j fs) i ≡ Some t.«package»)
@@ -89,6 +91,29 @@ pub lib_homes : (j : JavaNames) (us ls : List SourceUnit) (ps : List (List Name)
 lib_homes j us ls ps is k f at =
     let there = get_right (files_in true us) (files_in false ls) k f at in
     has_home ps (suc (suc there.0)) f.unit.«package» (ap (λ l. slice_get l (suc (suc there.0))) is ∙ file_home j (files_of us ls) there.0 f there.1)
+
+-- the packages of the library files
+pub library_held : (us ls : List SourceUnit) (ps : List (List Name)) → ps ≡ map (λ (u : SourceUnit). u.«package») ls → AreLibrary ps (files_of us ls)
+library_held us ls ps is path = (to, from)
+  where
+    to : HasPath ps path → (i : ℕ) × (f : File) × (slice_get (files_of us ls) i ≡ Some f) × (f.user ≡ false) × (path ≡ f.unit.«package»)
+    to h =
+        let u = get_mapped (λ (u : SourceUnit). u.«package») ls h.0 path (sym (ap (λ l. slice_get l h.0) is) ∙ h.1) in
+        let f : File = record { unit = u.0; user = false } in
+        let at = slice_get-map (λ (u : SourceUnit). (λ (f : File). f) (record { unit = u; user = false })) ls h.0 ∙ ap (option_map (λ (u : SourceUnit). (λ (f : File). f) (record { unit = u; user = false }))) u.1 in
+        let there = get_right (files_in true us) (files_in false ls) h.0 f at in
+        (there.0, f, there.1, refl, sym u.2)
+
+    from : (i : ℕ) × (f : File) × (slice_get (files_of us ls) i ≡ Some f) × (f.user ≡ false) × (path ≡ f.unit.«package») → HasPath ps path
+    from h = elim (get_split (files_in true us) (files_in false ls) h.0 h.1 h.2) [
+      | inl left ↦
+          let u = get_mapped (λ (u : SourceUnit). (λ (f : File). f) (record { unit = u; user = true })) us h.0 h.1 left in
+          absurd (true≢false (ap (λ (f : File). f.user) u.2 ∙ h.3))
+      | inr right ↦
+          let u = get_mapped (λ (u : SourceUnit). (λ (f : File). f) (record { unit = u; user = false })) ls right.0 h.1 right.1 in
+          let at = slice_get-map (λ (u : SourceUnit). u.«package») ls right.0 ∙ ap (option_map (λ (u : SourceUnit). u.«package»)) u.1 in
+          (right.0, ap (λ l. slice_get l right.0) is ∙ at ∙ ap (λ (f : File). Some f.unit.«package») u.2 ∙ ap Some (sym h.4))
+    ]
 
 -- ---- files
 

@@ -4,6 +4,7 @@ use Rattle.std.proofs.lemmas.List.{map-append}
 use Rattle.std.proofs.lemmas.Grind.{flat_map-append}
 use Rattle.java_tree.specs.declared.tree.Name.{Name}
 use Rattle.java_tree.specs.declared.tree.SourceUnit as declared
+use Rattle.java_tree.specs.Plain.{SourceUnit}
 use Rattle.java_tree.specs.View.{unit_plain}
 use Rattle.type_names.specs.declared.known.JavaNames.{JavaNames}
 use Rattle.type_names.specs.declared.known.Known as code
@@ -13,6 +14,10 @@ use Rattle.type_names.specs.Tables.{packages, brief, files_in}
 homes_map : (user : Bool) (us : List declared.SourceUnit) → map (λ (f : File). f.unit.«package») (files_in user (map unit_plain us)) ≡ map (λ (u : declared.SourceUnit). u.«package») us
 homes_map user [] = refl
 homes_map user (u ∷ us) = ap (λ ps. u.«package» ∷ ps) (homes_map user us)
+
+pub plain_homes : (us : List declared.SourceUnit) → map (λ (u : declared.SourceUnit). u.«package») us ≡ map (λ (u : SourceUnit). u.«package») (map unit_plain us)
+plain_homes [] = refl
+plain_homes (u ∷ us) = ap (λ ps. u.«package» ∷ ps) (plain_homes us)
 
 pub packages_made : (j : JavaNames) (us ls : List declared.SourceUnit) (a b : List Name) (p q r s : List (List Name))
     → a ≡ lang_package j → b ≡ io_package j → p ≡ a ∷ [] → q ≡ p ++ b ∷ [] → r ≡ q ++ map (λ u. u.«package») us → s ≡ r ++ map (λ u. u.«package») ls

@@ -3,8 +3,10 @@ pub mod Homes
 pub mod Keys
 pub mod Truths
 pub mod Opens
+pub mod Trees
 pub mod Demands
 pub mod Held
 pub mod Breaches
 pub mod Tested
 pub mod Named
+pub mod NamedIn

@@ -13,7 +13,8 @@ use Rattle.java_tree.specs.declared.tree.Import.{Import}
 use Rattle.type_names.specs.declared.firsts.FirstTypes.{FirstTypes}
 use Rattle.type_names.specs.Known.{KnownType, File}
 use Rattle.type_names.specs.Sees.{same_path, full_name, is_open}
-use Rattle.type_names.specs.Tables.{number_in, place_in, brief, least, fits, first_at, open_key, is_open_in, is_named_by, is_open_among, HoldsTypes}
+use Rattle.type_names.specs.Paths.{number_in, place_in}
+use Rattle.type_names.specs.Tables.{brief, least, fits, first_at, open_key, is_open_in, is_named_by, HoldsTypes}
 use Rattle.type_names.proofs.Lists.{place_map, place_same}
 use Rattle.type_names.proofs.Truths.{both_same, and_no, or_no, key_tests, last_tests, apart_tests, either_tests}
 
@@ -225,20 +226,3 @@ named_more ts f is k i x lt at =
     ∙ ap (λ b. nat_eq t.name.0 x && (is_open f t && b)) (list_any-append (λ (i : Import). not i.all && same_path (full_name t) i.path) (take k is) (i ∷ []))
     ∙ either_tests (nat_eq t.name.0 x) (is_open f t) (list_any (λ (i : Import). not i.all && same_path (full_name t) i.path) (take k is)) (list_any (λ (i : Import). not i.all && same_path (full_name t) i.path) (i ∷ [])))
     ∙ place_or (is_named_by f (take k is) x) (is_named_by f (i ∷ []) x) 0 ts
-
--- ---- imports on demand
-
-pub among_none : (ts : List KnownType) (f : File) (ps : List (List Name)) (x : ℕ) → position_from (is_open_among f ps [] x) 0 ts ≡ None
-among_none ts f ps x = place_none (is_open_among f ps [] x) 0 ts (λ k t e. ap (λ b. nat_eq t.name.0 x && b) (and_no (is_open f t)) ∙ and_no (nat_eq t.name.0 x))
-
--- one package more
-pub among_more : (ps : List (List Name)) (t : FirstTypes) (ts : List KnownType) (f : File) (d : List ℕ) (k p x : ℕ) (path : List Name) → HoldsTypes ps t ts → k < length d → p ≡ get_or d k 0
-    → number_in ps path ≡ Some p → position_from (is_open_among f ps (take (k + 1) d) x) 0 ts ≡ least (position_from (is_open_among f ps (take k d) x) 0 ts) (position_from (is_open_in f path x) 0 ts)
-among_more ps t ts f d k p x path holds lt at number =
-    place_same (is_open_among f ps (take (k + 1) d) x) (λ t. is_open_among f ps (take k d) x t || is_open_in f path x t) 0 ts (λ m t e.
-    ap (λ l. is_open_among f ps l x t) (take_more d k 0 lt ∙ ap (λ y. take k d ++ y ∷ []) (sym at))
-    ∙ ap (λ b. nat_eq t.name.0 x && (is_open f t && b)) (list_any-append (λ y. nat_eq y (place_in ps t.«package»)) (take k d) (p ∷ []))
-    ∙ ap (λ b. nat_eq t.name.0 x && (is_open f t && (list_any (λ y. nat_eq y (place_in ps t.«package»)) (take k d) || b)))
-    (or_no (nat_eq p (place_in ps t.«package»)) ∙ number_same ps path t.«package» p (place_in ps t.«package») number (holds.homes m t e) ∙ path_back path t.«package»)
-    ∙ either_tests (nat_eq t.name.0 x) (is_open f t) (list_any (λ y. nat_eq y (place_in ps t.«package»)) (take k d)) (same_path t.«package» path))
-    ∙ place_or (is_open_among f ps (take k d) x) (is_open_in f path x) 0 ts

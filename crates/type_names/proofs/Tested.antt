@@ -1,46 +1,44 @@
 -- Tests on packages and on imports.
-use Rattle.std.proofs.Common.{◌≡◌, ℕ, ◌+◌, ◌<◌, Bool, true, false, not, ◌&&◌, ◌||◌, ◌⊎◌, ◌↔◌, inl, inr, List, [], ◌∷◌, ◌++◌, map, take, Option, Some, None, refl, sym, ap, ◌∙◌, subst, length, get_or}
+use Rattle.std.proofs.Common.{◌≡◌, ℕ, zero, suc, Bool, true, false, not, ◌&&◌, ◌||◌, ◌⊎◌, ◌↔◌, inl, inr, List, [], ◌∷◌, ◌++◌, map, Option, Some, None, refl, sym, ap, ◌∙◌, subst}
 use Rattle.std.specs.Prelude.{slice_get, nat_eq, is_none}
 use Rattle.std.specs.List.{position_from}
 use Rattle.std.specs.Option.{option_map}
-use Rattle.std.proofs.lemmas.List.{take_more, map-append}
-use Rattle.std.proofs.lemmas.Option.{slice_get-map, slice_get_read}
+use Rattle.std.proofs.lemmas.Option.{slice_get-map}
 use Rattle.std.proofs.lemmas.Bool.{and_parts, and_from, true≢false}
 use Rattle.java_tree.specs.declared.tree.Name.{Name}
 use Rattle.java_tree.specs.declared.tree.SourceUnit as declared
 use Rattle.java_tree.specs.Plain.{SourceUnit}
 use Rattle.java_tree.specs.View.{unit_plain}
 use Rattle.type_names.specs.declared.known.JavaNames.{JavaNames}
-use Rattle.type_names.specs.Known.{KnownType, File, files_of, types_of, lang_package, io_package}
+use Rattle.type_names.specs.Known.{KnownType, File, types_of, lang_package, io_package}
 use Rattle.type_names.specs.Sees.{same_path, full_name, is_open}
 use Rattle.type_names.specs.Rules.{IsAt, NamesNoType, NamesNoPackage, NamesNothing, BreaksOnePackage, BreaksOwnPackage, BreaksNamedPackage, BreaksPackageName, BreaksImport}
-use Rattle.type_names.specs.Tables.{is_open_in, files_in}
+use Rattle.type_names.specs.Paths.{HasPath}
+use Rattle.type_names.specs.Tables.{packages, is_open_in, AreLibrary}
 use Rattle.type_names.specs.Searches.{IfBroken, HasPackage, IsBuiltInPackage, IsApart, BeginsBuiltIn}
 use Rattle.java_tree.specs.declared.tree.Import.{Import}
 use Rattle.rule_order.specs.declared.Breach.{Breach}
 use Rattle.rule_order.specs.First.{IsFirst}
 use Rattle.type_names.proofs.Breaches.{broken_by}
-use Rattle.type_names.proofs.Lists.{get_push}
 use Rattle.type_names.proofs.Opens.{path_is, path_same, last_same, place_found, none_passes}
-use Rattle.type_names.proofs.Held.{get_left, get_right, get_split, get_mapped}
+use Rattle.type_names.proofs.Held.{get_mapped, file_home}
 
 -- ---- files of a package
 
-pub unit_at : (us : List declared.SourceUnit) (i : ℕ) (u : declared.SourceUnit) → i < length us → u ≡ get_or us i u → slice_get (map unit_plain us) i ≡ Some (unit_plain u)
-unit_at us i u lt at = slice_get-map unit_plain us i ∙ ap (option_map unit_plain) (slice_get_read us (length us) i u refl lt at)
-
-pub has_here : (us : List declared.SourceUnit) (i : ℕ) (u : declared.SourceUnit) (path : List Name) → i < length us → u ≡ get_or us i u → path ≡ u.«package» → HasPackage (map unit_plain us) path
-has_here us i u path lt at same = (i, unit_plain u, unit_at us i u lt at, same)
-
-pub has_more : (us : List declared.SourceUnit) (i : ℕ) (u : declared.SourceUnit) (path : List Name) → i < length us → u ≡ get_or us i u → (path ≡ u.«package» → ⊥)
-    → (HasPackage (map unit_plain (take i us)) path → ⊥) → HasPackage (map unit_plain (take (i + 1) us)) path → ⊥
-has_more us i u path lt at apart none h =
-    let more : map unit_plain (take (i + 1) us) ≡ map unit_plain (take i us) ++ unit_plain u ∷ [] =
-    ap (map unit_plain) (take_more us i u lt ∙ ap (λ y. take i us ++ y ∷ []) (sym at)) ∙ map-append unit_plain (take i us) (u ∷ []) in
-    elim (get_push (map unit_plain (take i us)) (unit_plain u) h.0 h.1 (sym (ap (λ l. slice_get l h.0) more) ∙ h.2)) [
-      | inl old ↦ none (h.0, h.1, old, h.3)
-      | inr new ↦ apart (h.3 ∙ ap (λ (u : SourceUnit). u.«package») (sym new.1))
-    ]
+-- whether a file is in the package, by the packages of the files
+pub has_unit : (us : List SourceUnit) (ps : List (List Name)) (path : List Name) (r : Bool) → ps ≡ map (λ (u : SourceUnit). u.«package») us → ((r ≡ true) ↔ HasPath ps path)
+    → (r ≡ true) ↔ HasPackage us path
+has_unit us ps path r is tells = (
+  λ e.
+      let there = tells.0 e in
+      let u = get_mapped (λ (u : SourceUnit). u.«package») us there.0 path (sym (ap (λ l. slice_get l there.0) is) ∙ there.1) in
+      (there.0, u.0, u.1, sym u.2),
+  λ h.
+      tells.1 (
+        h.0,
+        ap (λ l. slice_get l h.0) is ∙ slice_get-map (λ (u : SourceUnit). u.«package») us h.0 ∙ ap (option_map (λ (u : SourceUnit). u.«package»)) h.2 ∙ ap Some (sym h.3),
+      ),
+)
 
 pub built_in_left : (j : JavaNames) (path : List Name) (r : Bool) → r ≡ same_path path (lang_package j) → r ≡ true → (r ≡ true) ↔ IsBuiltInPackage j path
 built_in_left j path r is e = (λ h. inl (path_is path (lang_package j) (sym is ∙ e)), λ h. e)
@@ -73,41 +71,50 @@ apart_is us first path r at is = (
 
 -- ---- imports on demand
 
-pub no_package : (j : JavaNames) (user lib : List SourceUnit) (path : List Name) → (IsBuiltInPackage j path → ⊥) → (HasPackage lib path → ⊥) → (from_user : Bool)
-    → (from_user ≡ true → HasPackage user path → ⊥) → NamesNoPackage j (files_of user lib) from_user path
-no_package j user lib path not_built not_lib from_user not_user = (
-  λ e. not_built (inl e),
-  λ e. not_built (inr e),
-  λ k g at why same. elim (get_split (files_in true user) (files_in false lib) k g at) [
-    | inl left ↦
-        let u = get_mapped (λ (u : SourceUnit). (λ (f : File). f) (record { unit = u; user = true })) user k g left in
-        elim why [
-          | inl is_user ↦ not_user is_user (k, u.0, u.1, same ∙ ap (λ (f : File). f.unit.«package») (sym u.2))
-          | inr is_lib ↦ true≢false (ap (λ (f : File). f.user) u.2 ∙ is_lib)
-        ]
-    | inr right ↦
-        let u = get_mapped (λ (u : SourceUnit). (λ (f : File). f) (record { unit = u; user = false })) lib right.0 g right.1 in
-        not_lib (right.0, u.0, u.1, same ∙ ap (λ (f : File). f.unit.«package») (sym u.2))
-  ],
+absent : (has : Bool) (P : Type 0) → ((has ≡ true) ↔ P) → not has ≡ true → P → ⊥
+absent has P tells none h = true≢false (sym none ∙ ap not (tells.1 h))
+
+missing : (has : Bool) (P : Type 0) → ((has ≡ true) ↔ P) → (P → ⊥) → not has ≡ true
+missing true P tells none = absurd (none (tells.0 refl))
+missing false P tells none = refl
+
+-- of a user file
+pub user_names : (j : JavaNames) (fs : List File) (ps : List (List Name)) (path : List Name) (user has : Bool) → ps ≡ packages j fs → user ≡ true → ((has ≡ true) ↔ HasPath ps path)
+    → (not has ≡ true) ↔ NamesNoPackage j fs user path
+user_names j fs ps path user has is in_user tells = (
+  λ e. (
+    λ same. absent has (HasPath ps path) tells e (0, ap (λ l. slice_get l 0) is ∙ ap Some (sym same)),
+    λ same. absent has (HasPath ps path) tells e (1, ap (λ l. slice_get l 1) is ∙ ap Some (sym same)),
+    λ k g at why same. absent has (HasPath ps path) tells e (suc (suc k), ap (λ l. slice_get l (suc (suc k))) is ∙ file_home j fs k g at ∙ ap Some (sym same)),
+  ),
+  λ none. missing has (HasPath ps path) tells (λ h. no_place none h.0 (sym (ap (λ l. slice_get l h.0) is) ∙ h.1)),
+)
+  where
+    no_place : NamesNoPackage j fs user path → (i : ℕ) → slice_get (packages j fs) i ≡ Some path → ⊥
+    no_place none zero e = none.0 (let same : lang_package j ≡ path = cc e in sym same)
+    no_place none (suc zero) e = none.1 (let same : io_package j ≡ path = cc e in sym same)
+    no_place none (suc (suc k)) e =
+        let f = get_mapped (λ (f : File). f.unit.«package») fs k path e in
+        none.2 k f.0 f.1 (inl in_user) (sym f.2)
+
+-- of a library file
+pub library_names : (j : JavaNames) (fs : List File) (ps : List (List Name)) (path : List Name) (user has : Bool) → AreLibrary ps fs → user ≡ false → (IsBuiltInPackage j path → ⊥)
+    → ((has ≡ true) ↔ HasPath ps path) → (not has ≡ true) ↔ NamesNoPackage j fs user path
+library_names j fs ps path user has library in_lib not_built tells = (
+  λ e. (
+    λ same. not_built (inl same),
+    λ same. not_built (inr same),
+    λ k g at why same. elim why [
+      | inl in_user ↦ true≢false (sym in_user ∙ in_lib)
+      | inr of_lib ↦ absent has (HasPath ps path) tells e ((library path).1 (k, g, at, of_lib, same))
+    ],
+  ),
+  λ none. missing has (HasPath ps path) tells (λ h. let f = (library path).0 h in none.2 f.0 f.1 f.2 (inr f.3) f.4),
 )
 
-pub lib_package : (j : JavaNames) (user lib : List SourceUnit) (path : List Name) (from_user : Bool) → HasPackage lib path → NamesNoPackage j (files_of user lib) from_user path → ⊥
-lib_package j user lib path from_user h none =
-    let file : File = record { unit = h.1; user = false } in
-    let at = slice_get-map (λ (u : SourceUnit). (λ (f : File). f) (record { unit = u; user = false })) lib h.0 ∙ ap (option_map (λ (u : SourceUnit). (λ (f : File). f) (record { unit = u; user = false }))) h.2 in
-    let there = get_right (files_in true user) (files_in false lib) h.0 file at in
-    none.2 there.0 file there.1 (inr refl) h.3
-
-pub user_package : (j : JavaNames) (user lib : List SourceUnit) (path : List Name) (from_user : Bool) → from_user ≡ true → HasPackage user path
-    → NamesNoPackage j (files_of user lib) from_user path → ⊥
-user_package j user lib path from_user is h none =
-    let file : File = record { unit = h.1; user = true } in
-    let at = slice_get-map (λ (u : SourceUnit). (λ (f : File). f) (record { unit = u; user = true })) user h.0 ∙ ap (option_map (λ (u : SourceUnit). (λ (f : File). f) (record { unit = u; user = true }))) h.2 in
-    none.2 h.0 file (get_left (files_in true user) (files_in false lib) h.0 file at) (inl is) h.3
-
-pub built_in_package : (j : JavaNames) (user lib : List SourceUnit) (path : List Name) (from_user : Bool) → IsBuiltInPackage j path → NamesNoPackage j (files_of user lib) from_user path → ⊥
-built_in_package j user lib path from_user (inl e) none = none.0 e
-built_in_package j user lib path from_user (inr e) none = none.1 e
+pub built_in_names : (j : JavaNames) (fs : List File) (path : List Name) (user : Bool) → IsBuiltInPackage j path → NamesNoPackage j fs user path → ⊥
+built_in_names j fs path user (inl e) none = none.0 e
+built_in_names j fs path user (inr e) none = none.1 e
 
 -- ---- single-type imports
 

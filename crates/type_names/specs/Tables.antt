@@ -1,8 +1,9 @@
 -- The tables by which a name is looked up: what each holds.
-use Rattle.std.specs.Prelude.{◌≡◌, ℕ, Bool, ◌&&◌, ◌||◌, not, nat_eq, nat_le, if◌then◌else◌, List, ◌∷◌, map, length, Option, Some, None, slice_get}
+use Rattle.std.specs.Prelude.{◌≡◌, ◌↔◌, ℕ, Bool, false, ◌&&◌, ◌||◌, not, nat_eq, nat_le, if◌then◌else◌, List, [], ◌∷◌, map, flat_map, length, Option, Some, None, slice_get}
 use Rattle.std.specs.List.{list_any, position_from}
 use Rattle.std.specs.Option.{unwrap_or}
 use Rattle.std.specs.HashMap.{get}
+use Rattle.std.specs.HashSet.{contains}
 use Rattle.std.specs.Bool.{beq}
 use Rattle.java_tree.specs.declared.tree.Name.{Name}
 use Rattle.java_tree.specs.declared.tree.Import.{Import}
@@ -11,21 +12,20 @@ use Rattle.type_names.specs.declared.known.JavaNames.{JavaNames}
 use Rattle.type_names.specs.declared.known.Known as code
 use Rattle.type_names.specs.declared.firsts.TypeKey.{TypeKey}
 use Rattle.type_names.specs.declared.firsts.FirstTypes.{FirstTypes}
+use Rattle.type_names.specs.declared.name_homes.NameHomes.{NameHomes}
 use Rattle.type_names.specs.declared.files.FileNames.{FileNames}
 use Rattle.type_names.specs.declared.table.TypeNames.{TypeNames}
 use Rattle.type_names.specs.Known.{KnownType, File, types_of, lang_package, io_package}
 use Rattle.type_names.specs.Sees.{same_path, full_name, is_open}
+use Rattle.type_names.specs.Paths.{number_in, place_in, HasPath}
 
 -- the packages of the program: those of built-in types, then each file's
 abbrev pub packages : JavaNames → List File → List (List Name)
 packages j fs = lang_package j ∷ io_package j ∷ map (λ f. f.unit.«package») fs
 
--- the number of a package: its first place among them
-abbrev pub number_in : List (List Name) → List Name → Option ℕ
-number_in ps path = position_from (λ p. same_path p path) 0 ps
-
-abbrev pub place_in : List (List Name) → List Name → ℕ
-place_in ps path = unwrap_or (number_in ps path) 0
+-- these are the packages of the library files
+abbrev pub AreLibrary : List (List Name) → List File → Type 0
+AreLibrary ps fs = (path : List Name) → HasPath ps path ↔ ((i : ℕ) × (f : File) × (slice_get fs i ≡ Some f) × (f.user ≡ false) × (path ≡ f.unit.«package»))
 
 -- a type with its package by number
 abbrev pub brief : List (List Name) → KnownType → code.Known
@@ -62,6 +62,20 @@ pub record HoldsTypes (ps : List (List Name)) (t : FirstTypes) (ts : List KnownT
   pub homes : (k : ℕ) (x : KnownType) → slice_get ts k ≡ Some x → number_in ps x.«package» ≡ Some (place_in ps x.«package»)
   pub firsts : (q : TypeKey) → first_at t q ≡ position_from (fits q) 0 (map (brief ps) ts)
 
+-- what a table has for a number, the empty list if it has nothing
+abbrev pub list_at : (ℕ → Option (List ℕ)) → ℕ → List ℕ
+list_at find x = unwrap_or (find x) []
+
+-- the packages of the types of a name, one for each
+abbrev pub homes_in : ℕ → List code.Known → List ℕ
+homes_in x = flat_map (λ (k : code.Known). if nat_eq k.name.0 x then k.«package» ∷ [] else [])
+
+abbrev pub homes_of : NameHomes → ℕ → List ℕ
+homes_of t = list_at (get nat_eq t.homes)
+
+abbrev pub AreHomes : List code.Known → NameHomes → Type 0
+AreHomes ts t = (x : ℕ) → homes_of t x ≡ homes_in x ts
+
 -- the open types of a name in a package
 abbrev pub is_open_in : File → List Name → ℕ → KnownType → Bool
 is_open_in f path x t = nat_eq t.name.0 x && (is_open f t && same_path t.«package» path)
@@ -73,6 +87,14 @@ is_named_by f is x t = nat_eq t.name.0 x && (is_open f t && list_any (λ (i : Im
 -- the open types of a name in packages of these numbers
 abbrev pub is_open_among : File → List (List Name) → List ℕ → ℕ → KnownType → Bool
 is_open_among f ps d x t = nat_eq t.name.0 x && (is_open f t && list_any (λ y. nat_eq y (place_in ps t.«package»)) d)
+
+-- the numbers of a set are those of a list
+abbrev pub AreSame : (ℕ → Bool) → List ℕ → Type 0
+AreSame has d = (p : ℕ) → has p ≡ list_any (λ y. nat_eq y p) d
+
+-- the open types of a name in packages of these numbers that are in a set
+abbrev pub is_open_both : File → List (List Name) → (ℕ → Bool) → List ℕ → ℕ → KnownType → Bool
+is_open_both f ps has d x t = nat_eq t.name.0 x && (is_open f t && (has (place_in ps t.«package») && list_any (λ y. nat_eq y (place_in ps t.«package»)) d))
 
 -- whether a file imports a package on demand, by itself or as each file does
 abbrev pub has_on_demand : JavaNames → List Import → List Name → Bool
@@ -88,7 +110,8 @@ pub record HoldsFile (ps : List (List Name)) (j : JavaNames) (ts : List KnownTyp
   pub home : number_in ps f.unit.«package» ≡ Some n.home.«package»
   pub user : n.home.user ≡ f.user
   pub singles : (x : ℕ) → get nat_eq n.singles x ≡ position_from (is_named_by f f.unit.imports x) 0 ts
-  pub demands : HoldsDemands ps j f.unit.imports n.on_demand.items
+  pub demands : HoldsDemands ps j f.unit.imports n.on_demand.numbers.items
+  pub seen : AreSame (contains nat_eq n.on_demand.seen) n.on_demand.numbers.items
 
 -- what is kept of each of a list of files
 pub record HoldsFiles (ps : List (List Name)) (j : JavaNames) (ts : List KnownType) (fs : List File) (ns : List FileNames) : Type 0 where
@@ -98,7 +121,9 @@ pub record HoldsFiles (ps : List (List Name)) (j : JavaNames) (ts : List KnownTy
 -- The table is that of the program with these files.
 pub record StandsFor (t : TypeNames) (j : JavaNames) (fs : List File) : Type 0 where
   pub homes : t.packages ≡ packages j fs
+  pub library : AreLibrary t.library fs
   pub types : HoldsTypes t.packages t.firsts (types_of j fs)
+  pub named : AreHomes (map (brief t.packages) (types_of j fs)) t.named
   pub files : HoldsFiles t.packages j (types_of j fs) fs t.files.items
 
 -- each of these files is in a package with a number

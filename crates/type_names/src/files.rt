@@ -3,32 +3,35 @@
 ghost use Rattle.std.specs.Prelude.{◌≡◌, ℕ, ◌||◌, cond, nat_eq, slice_get, List, [], ◌∷◌, Some, IfOk, OnOk, OnSome};
 ghost use Rattle.std.specs.List.{list_any, position_from};
 ghost use Rattle.std.specs.HashMap.{get};
+ghost use Rattle.std.specs.HashSet.{contains};
 ghost use Rattle.java_tree.specs.declared.tree.Name as spec_name;
 ghost use Rattle.java_tree.specs.View.{unit_plain};
 ghost use Rattle.type_names.specs.Known.{KnownType, File};
 ghost use Rattle.type_names.specs.Sees.{same_path};
-ghost use Rattle.type_names.specs.Tables.{number_in, least, first_at, open_key, is_open_in, is_named_by, HoldsTypes, HoldsDemands, HoldsFile};
+ghost use Rattle.type_names.specs.Paths.{number_in};
+ghost use Rattle.type_names.specs.Tables.{least, first_at, open_key, is_open_in, is_named_by, AreSame, HoldsTypes, HoldsDemands, HoldsFile};
 
 use crate::firsts::{FirstTypes, TypeKey};
-use crate::known::{JavaNames, number_of};
+use crate::known::JavaNames;
+use crate::paths::Packages;
+use java_tree::NoMemory;
 use java_tree::tree::{Import, Name, SourceUnit};
-use java_tree::{Items, NoMemory};
 use std::alloc::Global;
-use std::collections::HashMap;
+use std::collections::{HashMap, HashSet};
 
 /// What is kept of a file: its package, whether it is a user file, the types that its single-type imports name, and the packages that it imports on demand.
 #[derive(Drop)]
 pub(crate) struct FileNames {
     pub(crate) home: Home,
     pub(crate) singles: HashMap<u32, u32>,
-    pub(crate) on_demand: Vec<usize>,
+    pub(crate) on_demand: OnDemand,
 }
 
 impl FileNames {
     pub(crate) fn of(
         alloc: Global,
         java: JavaNames,
-        packages: &[Items<Name>],
+        packages: &Packages,
         firsts: &FirstTypes,
         unit: &SourceUnit,
         user: bool,
@@ -36,7 +39,7 @@ impl FileNames {
         ensures { IfOk result (λ n. (ts : List KnownType) (h : ℕ) → HoldsTypes packages.now firsts.now ts → number_in packages.now unit.now.«package» ≡ Some h
             → HoldsFile packages.now java ts (record { unit = unit_plain unit.now; user = user }) n) }
     {
-        let package = number_of(packages, unit.package.as_slice()).unwrap_or(0);
+        let package = packages.number_of(unit.package.as_slice()).unwrap_or(0);
         let home = Home { package, user };
         let imports = unit.imports.as_slice();
         Ok(FileNames {
@@ -52,6 +55,13 @@ impl FileNames {
     {
         self.singles.get(&name.0).copied()
     }
+}
+
+/// The packages that a file imports on demand, by number, as a list and as a set.
+#[derive(Drop)]
+pub(crate) struct OnDemand {
+    pub(crate) numbers: Vec<usize>,
+    pub(crate) seen: HashSet<usize>,
 }
 
 /// The package of a file, and whether it is a user file.
@@ -88,7 +98,7 @@ pub(crate) fn least(a: Option<u32>, b: Option<u32>) -> Option<u32>
 
 /// The first open type of a name in a package.
 pub(crate) fn type_in(
-    packages: &[Items<Name>],
+    packages: &Packages,
     firsts: &FirstTypes,
     home: Home,
     path: &[Name],
@@ -97,7 +107,7 @@ pub(crate) fn type_in(
     ensures { (ts : List KnownType) (f : File) → HoldsTypes packages.now firsts.now ts → number_in packages.now f.unit.«package» ≡ Some home.«package»
         → home.user ≡ f.user → result ≡ position_from (is_open_in f path.now name.0) 0 ts }
 {
-    match number_of(packages, path) {
+    match packages.number_of(path) {
         Some(package) => firsts.get(home.key(package, name)),
         None => None,
     }
@@ -105,7 +115,7 @@ pub(crate) fn type_in(
 
 fn singles_of(
     alloc: Global,
-    packages: &[Items<Name>],
+    packages: &Packages,
     firsts: &FirstTypes,
     home: Home,
     imports: &[Import],
@@ -122,7 +132,7 @@ fn singles_of(
 }
 
 fn note_import(
-    packages: &[Items<Name>],
+    packages: &Packages,
     firsts: &FirstTypes,
     home: Home,
     import: &Import,
@@ -155,33 +165,39 @@ fn note_single(singles: &mut HashMap<u32, u32>, name: u32, at: u32) -> Result<()
 fn on_demand_of(
     alloc: Global,
     java: JavaNames,
-    packages: &[Items<Name>],
+    packages: &Packages,
     imports: &[Import],
-) -> Result<Vec<usize>, NoMemory>
-    ensures { IfOk result (λ d. HoldsDemands packages.now java imports.now d.items) }
+) -> Result<OnDemand, NoMemory>
+    ensures { IfOk result (λ d. HoldsDemands packages.now java imports.now d.numbers.items × AreSame (contains nat_eq d.seen) d.numbers.items) }
 {
-    let mut on_demand = Vec::new(alloc);
-    push_package(packages, &[java.java, java.lang], &mut on_demand)?;
+    let mut numbers = Vec::new(alloc);
+    let mut seen = HashSet::new(alloc);
+    push_package(packages, &[java.java, java.lang], &mut seen, &mut numbers)?;
     for import in imports {
         if import.all {
-            push_package(packages, import.path.as_slice(), &mut on_demand)?;
+            push_package(packages, import.path.as_slice(), &mut seen, &mut numbers)?;
         }
     }
-    Ok(on_demand)
+    Ok(OnDemand { numbers, seen })
 }
 
+/// Puts the number of a package to those seen, once, if it has one.
 fn push_package(
-    packages: &[Items<Name>],
+    packages: &Packages,
     path: &[Name],
+    seen: &mut HashSet<usize>,
     numbers: &mut Vec<usize>,
 ) -> Result<(), NoMemory>
+    requires { AreSame (contains nat_eq seen.old) numbers.old.items }
+    ensures same { OnOk result (AreSame (contains nat_eq seen.new) numbers.new.items) }
     ensures all { OnOk result ((q : List spec_name.Name) (p : ℕ) → number_in packages.now q ≡ Some p
         → list_any (λ y. nat_eq y p) numbers.new.items ≡ (list_any (λ y. nat_eq y p) numbers.old.items || same_path q path.now)) }
     ensures real { OnOk result (((k p : ℕ) → slice_get numbers.old.items k ≡ Some p → (q : List spec_name.Name) × (number_in packages.now q ≡ Some p))
         → (k p : ℕ) → slice_get numbers.new.items k ≡ Some p → (q : List spec_name.Name) × (number_in packages.now q ≡ Some p)) }
 {
-    if let Some(number) = number_of(packages, path) {
-        if !numbers.contains(&number) {
+    if let Some(number) = packages.number_of(path) {
+        if !seen.contains(&number) {
+            seen.insert(number)?;
             numbers.push(number)?;
         }
     }

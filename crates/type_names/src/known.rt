@@ -6,8 +6,9 @@ ghost use Rattle.java_tree.specs.Names.{IsFront};
 ghost use Rattle.java_tree.specs.View.{unit_plain, decl_plain};
 ghost use Rattle.type_names.specs.Known.{AreJavaNames, is_public_mod, declared_type, types_in, types_of, files_of};
 ghost use Rattle.type_names.specs.Known as spec;
-ghost use Rattle.type_names.specs.Tables.{packages, number_in, place_in, brief, files_in};
+ghost use Rattle.type_names.specs.Tables.{packages, brief, files_in};
 
+use crate::paths::Packages;
 use java_tree::tree::{Mod, Name, SourceUnit, TypeDecl};
 use java_tree::{BUILT_IN_TYPES, Items, Names, NoMemory};
 use std::alloc::Global;
@@ -50,7 +51,7 @@ pub(crate) fn packages_of(
     java: JavaNames,
     user: &[SourceUnit],
     lib: &[SourceUnit],
-) -> Result<Items<Items<Name>>, NoMemory>
+) -> Result<Packages, NoMemory>
     ensures { IfOk result (λ ps. ps ≡ packages java (files_of (map unit_plain user.now) (map unit_plain lib.now))) }
 {
     let mut paths = Items::new(alloc);
@@ -58,7 +59,16 @@ pub(crate) fn packages_of(
     paths.push(Items::from_slice(alloc, &[java.java, java.io])?)?;
     push_packages(alloc, user, &mut paths)?;
     push_packages(alloc, lib, &mut paths)?;
-    Ok(paths)
+    Packages::of(alloc, paths)
+}
+
+/// The packages of the library files.
+pub(crate) fn library_of(alloc: Global, lib: &[SourceUnit]) -> Result<Packages, NoMemory>
+    ensures { IfOk result (λ ps. ps ≡ map (λ u. u.package) (map unit_plain lib.now)) }
+{
+    let mut paths = Items::new(alloc);
+    push_packages(alloc, lib, &mut paths)?;
+    Packages::of(alloc, paths)
 }
 
 fn push_packages(
@@ -74,23 +84,11 @@ fn push_packages(
     Ok(())
 }
 
-/// The number of a package, `None` where it is none of the program.
-pub(crate) fn number_of(packages: &[Items<Name>], path: &[Name]) -> Option<usize>
-    ensures { result ≡ number_in packages.now path.now }
-{
-    for (at, package) in packages.iter().enumerate() {
-        if package.as_slice() == path {
-            return Some(at);
-        }
-    }
-    None
-}
-
 /// All types in order: those without a declaration, then those of the user files, then those of the library files.
 pub(crate) fn known_types(
     alloc: Global,
     java: JavaNames,
-    packages: &[Items<Name>],
+    packages: &Packages,
     user: &[SourceUnit],
     lib: &[SourceUnit],
 ) -> Result<Vec<Known>, NoMemory>
@@ -105,12 +103,12 @@ pub(crate) fn known_types(
 fn built_in_types(
     alloc: Global,
     java: JavaNames,
-    packages: &[Items<Name>],
+    packages: &Packages,
 ) -> Result<Vec<Known>, NoMemory>
     ensures { IfOk result (λ ts. ts.items ≡ map (brief packages.now) (map (spec.built_in_type java) (spec.numbers_below 16))) }
 {
-    let lang = number_of(packages, &[java.java, java.lang]).unwrap_or(0);
-    let io = number_of(packages, &[java.java, java.io]).unwrap_or(0);
+    let lang = packages.number_of(&[java.java, java.lang]).unwrap_or(0);
+    let io = packages.number_of(&[java.java, java.io]).unwrap_or(0);
     let mut types = Vec::new(alloc);
     for number in 0..BUILT_IN_TYPES {
         types.push(Known {
@@ -125,7 +123,7 @@ fn built_in_types(
 }
 
 fn push_types(
-    packages: &[Items<Name>],
+    packages: &Packages,
     units: &[SourceUnit],
     user: bool,
     types: &mut Vec<Known>,
@@ -139,14 +137,14 @@ fn push_types(
 }
 
 fn push_declared(
-    packages: &[Items<Name>],
+    packages: &Packages,
     unit: &SourceUnit,
     user: bool,
     types: &mut Vec<Known>,
 ) -> Result<(), NoMemory>
     ensures { OnOk result (types.new.items ≡ types.old.items ++ map (brief packages.now) (types_in (record { unit = unit_plain unit.now; user = user }))) }
 {
-    let package = number_of(packages, unit.package.as_slice()).unwrap_or(0);
+    let package = packages.number_of(unit.package.as_slice()).unwrap_or(0);
     for class in unit.types.as_slice() {
         types.push(Known {
             package,

@@ -5,7 +5,9 @@ mod files;
 mod firsts;
 mod imports;
 mod known;
+mod name_homes;
 mod packages;
+mod paths;
 mod rules;
 mod table;
 

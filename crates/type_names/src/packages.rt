@@ -1,13 +1,16 @@
 //! Tests on packages and on the files that are in them.
 
-ghost use Rattle.std.specs.Prelude.{◌≡◌, ◌↔◌, ◌⊎◌, IsTrue, map};
+ghost use Rattle.std.specs.Prelude.{◌≡◌, ◌↔◌, ◌⊎◌, List, IsTrue, map};
 ghost use Rattle.java_tree.specs.View.{unit_plain};
 ghost use Rattle.rule_order.specs.First.{IsFirst};
-ghost use Rattle.type_names.specs.Known.{files_of};
+ghost use Rattle.type_names.specs.Known.{File};
 ghost use Rattle.type_names.specs.Rules.{NamesNoPackage};
-ghost use Rattle.type_names.specs.Searches.{IfBroken, HasPackage, IsBuiltInPackage, IsApart, BeginsBuiltIn};
+ghost use Rattle.type_names.specs.Searches.{IfBroken, IsBuiltInPackage, IsApart, BeginsBuiltIn};
+ghost use Rattle.type_names.specs.Tables.{AreLibrary};
+ghost use Rattle.type_names.specs.Tables as tables;
 
 use crate::known::JavaNames;
+use crate::paths::Packages;
 use java_tree::BUILT_IN_TYPES;
 use java_tree::tree::{Name, SourceUnit};
 use rule_order::Breach;
@@ -21,18 +24,6 @@ pub(crate) fn breach_if(broken: bool, node: u32, rule: u8) -> Option<Breach>
     } else {
         None
     }
-}
-
-/// Whether one of the files is in the package.
-pub(crate) fn has_package(units: &[SourceUnit], path: &[Name]) -> bool
-    ensures { IsTrue result ↔ HasPackage (map unit_plain units.now) path.now }
-{
-    for unit in units {
-        if unit.package.as_slice() == path {
-            return true;
-        }
-    }
-    false
 }
 
 /// Whether a built-in type is in the package.
@@ -62,24 +53,21 @@ pub(crate) fn begins_built_in(path: &[Name]) -> bool
     }
 }
 
-/// Whether an import on demand of a user file, or of a library file, names no package.
+/// Whether an import on demand of a user file, or of a library file, names no package. Takes a look-up for each name of the path.
 pub(crate) fn names_no_package(
     java: JavaNames,
-    user: &[SourceUnit],
-    lib: &[SourceUnit],
+    packages: &Packages,
+    library: &Packages,
     from_user: bool,
     path: &[Name],
 ) -> bool
-    ensures { IsTrue result ↔ NamesNoPackage java (files_of (map unit_plain user.now) (map unit_plain lib.now)) from_user path.now }
+    ensures { (fs : List File) → packages.now ≡ tables.packages java fs → AreLibrary library.now fs → IsTrue result ↔ NamesNoPackage java fs from_user path.now }
 {
+    if from_user {
+        return !packages.has(path);
+    }
     if is_built_in(java, path) {
         return false;
     }
-    if has_package(lib, path) {
-        return false;
-    }
-    if from_user {
-        return !has_package(user, path);
-    }
-    true
+    !library.has(path)
 }

@@ -1,21 +1,23 @@
 //! The rules on names of packages and types.
 
-ghost use Rattle.std.specs.Prelude.{◌≡◌, ℕ, ◌||◌, map, nat_eq, IfOk, OnOk};
+ghost use Rattle.std.specs.Prelude.{◌≡◌, ℕ, ◌||◌, List, map, nat_eq, IfOk, OnOk};
 ghost use Rattle.std.specs.HashSet.{contains};
+ghost use Rattle.java_tree.specs.Plain as spec;
 ghost use Rattle.java_tree.specs.View.{unit_plain};
 ghost use Rattle.rule_order.specs.First.{Either, IsFirst};
 ghost use Rattle.type_names.specs.Rules.{Among, NameBreaches};
 ghost use Rattle.type_names.specs.Searches.{UserBreaches, LibBreaches, TypeBreaches, IfDeclared, begin};
 
-use crate::known::{JavaNames, Known, known_types};
-use crate::packages::{begins_built_in, breach_if, has_package, is_apart, is_built_in};
+use crate::known::{JavaNames, Known, known_types, library_of};
+use crate::packages::{begins_built_in, breach_if, is_apart, is_built_in};
+use crate::paths::Packages;
 use java_tree::NoMemory;
 use java_tree::tree::SourceUnit;
 use rule_order::{Breach, earlier};
 use std::alloc::Global;
 use std::collections::HashSet;
 
-/// The first of the rules S14, S15, S20, S22 and S23 that is broken, with the number behind the S.
+/// The first of the rules S14, S15, S20, S22 and S23 that is broken, with the number behind the S. Takes time for the types and the names of packages.
 pub fn first_name_breach(
     alloc: Global,
     java: JavaNames,
@@ -24,19 +26,25 @@ pub fn first_name_breach(
 ) -> Result<Option<Breach>, NoMemory>
     ensures { IfOk result (λ r. IsFirst (NameBreaches java (map unit_plain user.now) (map unit_plain lib.now)) r) }
 {
-    let types = known_types(alloc, java, &[], user, lib)?;
+    let library = library_of(alloc, lib)?;
+    // The rules are on names alone, so the numbers of packages do not count.
+    let types = known_types(alloc, java, &library, user, lib)?;
     let roots = roots_of(alloc, java, user, lib)?;
     let in_types = first_type_breach(alloc, &types, &roots)?;
-    let in_files = earlier(first_user_breach(java, user, lib), first_lib_breach(lib));
+    let in_files = earlier(
+        first_user_breach(java, user, &library),
+        first_lib_breach(lib),
+    );
     Ok(earlier(in_files, in_types))
 }
 
-fn first_user_breach(java: JavaNames, user: &[SourceUnit], lib: &[SourceUnit]) -> Option<Breach>
-    ensures { IsFirst (Among (UserBreaches java (map unit_plain user.now) (map unit_plain lib.now)) (map unit_plain user.now)) result }
+fn first_user_breach(java: JavaNames, user: &[SourceUnit], library: &Packages) -> Option<Breach>
+    ensures { (lib : List spec.SourceUnit) → library.now ≡ map (λ u. u.package) lib
+        → IsFirst (Among (UserBreaches java (map unit_plain user.now) lib) (map unit_plain user.now)) result }
 {
     let mut found = None;
     for unit in user {
-        found = earlier(found, user_breach(java, user, lib, unit));
+        found = earlier(found, user_breach(java, user, library, unit));
     }
     found
 }
@@ -44,15 +52,15 @@ fn first_user_breach(java: JavaNames, user: &[SourceUnit], lib: &[SourceUnit]) -
 fn user_breach(
     java: JavaNames,
     user: &[SourceUnit],
-    lib: &[SourceUnit],
+    library: &Packages,
     unit: &SourceUnit,
 ) -> Option<Breach>
-    ensures { IsFirst (UserBreaches java (map unit_plain user.now) (map unit_plain lib.now) (unit_plain unit.now)) result }
+    ensures { (lib : List spec.SourceUnit) → library.now ≡ map (λ u. u.package) lib → IsFirst (UserBreaches java (map unit_plain user.now) lib (unit_plain unit.now)) result }
 {
     let node = unit.node.id;
     let path = unit.package.as_slice();
     let one = breach_if(is_apart(user, path), node, 14);
-    let own = breach_if(is_built_in(java, path) | has_package(lib, path), node, 15);
+    let own = breach_if(is_built_in(java, path) | library.has(path), node, 15);
     let name = breach_if(begins_built_in(path), node, 22);
     earlier(one, earlier(own, name))
 }

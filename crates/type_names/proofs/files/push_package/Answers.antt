@@ -1,5 +1,6 @@
-use Rattle.std.proofs.Common.{◌≡◌, ◌∙◌, ◌||◌, sym, ap, inl, inr, nat_eq, Some, true, ◌∷◌, []}
+use Rattle.std.proofs.Common.{◌≡◌, ◌∙◌, ◌||◌, sym, ap, inl, inr, nat_eq, Some, true, false, Bool, cond, refl, ◌∷◌, []}
 use Rattle.std.specs.List.{list_any}
+use Rattle.std.specs.HashSet.{contains}
 use Rattle.std.specs.Prelude.{slice_get}
 use Rattle.std.proofs.lemmas.List.Folds.{list_any-append}
 use Rattle.type_names.proofs.Lists.{get_push}
@@ -19,10 +20,19 @@ returns-in_ok-push-clause-real c = λ real k p at. elim (get_push c.args.numbers
   | inr new ↦ (c.args.path.now, sym c.number_of.ensures ∙ c.in-Some.is ∙ ap Some new.1)
 ]
 
+pub returns-in_ok-push-clause-same : goal.returns-in_ok-push-clause-same
+returns-in_ok-push-clause-same c = λ p.
+    c.in_ok-insert.ensures.updates.0 p ∙ put_more (nat_eq c.in-Some.number p) (contains nat_eq c.args.seen.now p) (list_any (λ y. nat_eq y p) c.args.numbers.now.items) (c.requires p)
+    ∙ sym (ap (list_any (λ y. nat_eq y p)) c.in_ok-push.ensures.items ∙ list_any-append (λ y. nat_eq y p) c.args.numbers.now.items (c.in-Some.number ∷ []))
+  where
+    put_more : (b has there : Bool) → has ≡ there → cond b true has ≡ (there || (b || false))
+    put_more true has true e = refl
+    put_more true has false e = refl
+    put_more false has there e = e ∙ sym (or_no there)
+
 pub returns-else-not-contains-clause-all : goal.returns-else-not-contains-clause-all
 returns-else-not-contains-clause-all c = λ q p at.
-    let value : c.contains.result ≡ list_any (λ y. nat_eq y c.in-Some.number) c.deref.result.now = c.contains.ensures.value in
-    let there : list_any (λ y. nat_eq y c.in-Some.number) c.args.numbers.now.items ≡ true = ap (list_any (λ y. nat_eq y c.in-Some.number)) (sym c.deref.ensures.value) ∙ sym value ∙ c.if-not-contains.false in
+    let there : list_any (λ y. nat_eq y c.in-Some.number) c.args.numbers.now.items ≡ true = sym (c.requires c.in-Some.number) ∙ sym c.contains.ensures ∙ c.if-not-contains.false in
     has_number c.args.packages.now c.args.numbers.now.items c.args.path.now q c.in-Some.number p (sym c.number_of.ensures ∙ c.in-Some.is) at there
 
 pub returns-in_default-clause-all : goal.returns-in_default-clause-all

@@ -2,7 +2,8 @@ use Rattle.std.proofs.Common.{◌≡◌, ℕ, List, Some, nat_eq, take}
 use Rattle.std.specs.List.{position_from}
 use Rattle.std.specs.HashMap.{get}
 use Rattle.type_names.specs.Known.{KnownType, File}
-use Rattle.type_names.specs.Tables.{number_in, is_named_by, HoldsTypes}
+use Rattle.type_names.specs.Paths.{number_in}
+use Rattle.type_names.specs.Tables.{is_named_by, HoldsTypes}
 use Rattle.type_names.proofs.files.singles_of.Given as goal
 
 abbrev pub invariant-loop-import : goal.invariant-loop-import

@@ -1,4 +1,4 @@
-use Rattle.std.proofs.Common.{◌≡◌, ◌∙◌, ◌↔◌, [], true, map, sym, subst, nat_eq}
+use Rattle.std.proofs.Common.{◌≡◌, ◌∙◌, ◌↔◌, true, map, sym, subst, nat_eq}
 use Rattle.std.specs.HashSet.{contains}
 use Rattle.java_tree.specs.declared.tree.Name.{Name}
 use Rattle.java_tree.specs.View.{unit_plain}
@@ -18,10 +18,10 @@ returns c =
     let names = contains nat_eq c.in_ok-roots.roots in
     let tells : (x : Name) → (names x.0 ≡ true) ↔ BeginsPackage c.args.java (files_of us ls) x =
     λ x. let root = root_is c.args.java c.args.user.now c.args.lib.now x in (λ e. root.0 (sym (c.in_ok-roots.ensures x.0) ∙ e), λ h. c.in_ok-roots.ensures x.0 ∙ root.1 h) in
-    let types = map (brief []) (types_of c.args.java (files_of us ls)) in
+    let types = map (brief c.in_ok-library.library) (types_of c.args.java (files_of us ls)) in
     first_alike (Either (Either (Among (UserBreaches c.args.java us ls) us) (Among LibBreaches ls)) (TypeBreaches names types)) (NameBreaches c.args.java us ls)
-    (all_together [] names c.args.java us ls tells) c.earlier.result
+    (all_together c.in_ok-library.library names c.args.java us ls tells) c.earlier.result
     (first_of_both (Either (Among (UserBreaches c.args.java us ls) us) (Among LibBreaches ls)) (TypeBreaches names types) c.earlier-in_files.result c.in_ok-in_types.in_types c.earlier.result c.earlier.ensures
     (first_of_both (Among (UserBreaches c.args.java us ls) us) (Among LibBreaches ls) c.first_user_breach.result c.first_lib_breach.result c.earlier-in_files.result c.earlier-in_files.ensures
-    c.first_user_breach.ensures c.first_lib_breach.ensures)
+    (c.first_user_breach.ensures ls c.in_ok-library.ensures) c.first_lib_breach.ensures)
     (subst (λ ts. IsFirst (TypeBreaches names ts) c.in_ok-in_types.in_types) (c.deref.ensures.value ∙ c.in_ok-types.ensures) c.in_ok-in_types.ensures))

@@ -8,10 +8,11 @@ use Rattle.type_names.proofs.Breaches.{among_more}
 use Rattle.type_names.proofs.rules.first_user_breach.Goals as goal
 
 pub loop-unit-preserved : goal.loop-unit-preserved
-loop-unit-preserved c =
-    among_more unit_plain (UserBreaches c.args.java (map unit_plain c.args.user.now) (map unit_plain c.args.lib.now)) c.args.user.now c.loop-unit.unit-index c.unit-item.result c.loop-unit.found c.user_breach.result c.earlier-found.result c.loop-unit-test.true c.unit-item.is
-    c.loop-unit.invariant c.user_breach.ensures c.earlier-found.ensures
+loop-unit-preserved c = λ lib is.
+    among_more unit_plain (UserBreaches c.args.java (map unit_plain c.args.user.now) lib) c.args.user.now c.loop-unit.unit-index c.unit-item.result c.loop-unit.found c.user_breach.result c.earlier-found.result
+    c.loop-unit-test.true c.unit-item.is (c.loop-unit.invariant lib is) (c.user_breach.ensures lib is) c.earlier-found.ensures
 
 pub returns : goal.returns
-returns c =
-    subst (λ us. IsFirst (Among (UserBreaches c.args.java (map unit_plain c.args.user.now) (map unit_plain c.args.lib.now)) (map unit_plain us)) c.loop-unit.found) (take_all c.loop-unit.unit-index c.args.user.now c.loop-unit-test.false) c.loop-unit.invariant
+returns c = λ lib is.
+    subst (λ us. IsFirst (Among (UserBreaches c.args.java (map unit_plain c.args.user.now) lib) (map unit_plain us)) c.loop-unit.found) (take_all c.loop-unit.unit-index c.args.user.now c.loop-unit-test.false)
+    (c.loop-unit.invariant lib is)

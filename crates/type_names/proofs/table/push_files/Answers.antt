@@ -2,7 +2,8 @@ use Rattle.std.proofs.Common.{◌++◌, map, take, sym, subst, [], ◌∷◌}
 use Rattle.std.proofs.lemmas.List.{take_all}
 use Rattle.java_tree.specs.View.{unit_plain}
 use Rattle.type_names.specs.Known.{File}
-use Rattle.type_names.specs.Tables.{place_in, files_in, HoldsFiles}
+use Rattle.type_names.specs.Paths.{place_in}
+use Rattle.type_names.specs.Tables.{files_in, HoldsFiles}
 use Rattle.type_names.proofs.Held.{append_none, file_at, file_more, files_more}
 use Rattle.type_names.proofs.table.push_files.Goals as goal
 

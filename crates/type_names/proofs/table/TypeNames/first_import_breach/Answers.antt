@@ -17,8 +17,8 @@ returns c = λ stands.
     first_alike (Either (Among (breaks fs) (files_in true us)) (Among (breaks fs) (files_in false ls))) (ImportBreaches c.args.java fs)
     (among_both (breaks fs) (files_in true us) (files_in false ls)) c.earlier.result
     (first_of_both (Among (breaks fs) (files_in true us)) (Among (breaks fs) (files_in false ls)) c.first_breach_of-in_user.result c.first_breach_of-in_lib.result c.earlier.result c.earlier.ensures
-    (c.first_breach_of-in_user.ensures stands.types (user_homes c.args.java us ls c.args.self.now.packages stands.homes))
-    (c.first_breach_of-in_lib.ensures stands.types (lib_homes c.args.java us ls c.args.self.now.packages stands.homes)))
+    (c.first_breach_of-in_user.ensures fs stands (user_homes c.args.java us ls c.args.self.now.packages stands.homes))
+    (c.first_breach_of-in_lib.ensures fs stands (lib_homes c.args.java us ls c.args.self.now.packages stands.homes)))
   where
     breaks : List File → File → Breaches
     breaks fs f = Among (BreaksImport c.args.java fs f) f.unit.imports
