@@ -1,5 +1,5 @@
 -- Results in the order of their types.
-use Rattle.std.proofs.Common.{◌≡◌, ℕ, ◌+◌, ◌-◌, ◌<◌, ◌≤◌, zero, suc, true, false, List, [], ◌∷◌, ◌++◌, Option, None, Some, ◌⊎◌, inl, inr, ◌↔◌, refl, sym, ap, ◌∙◌, subst, length, arith}
+use Rattle.std.proofs.Common.{◌≡◌, ℕ, ◌+◌, ◌-◌, ◌<◌, ◌≤◌, zero, suc, true, false, List, [], ◌∷◌, Option, None, Some, ◌⊎◌, inl, inr, ◌↔◌, refl, sym, ap, ◌∙◌, subst, length, arith}
 use Rattle.std.specs.Prelude.{◌/◌, slice_get, slice_index_or as get_or}
 use Rattle.std.specs.List.{Contains, insert}
 use Rattle.std.proofs.lemmas.Option.{slice_get_within, slice_get-get_or}
@@ -49,7 +49,7 @@ fits_itself w (Some t) = inl refl
 at_or_behind : (m k : ℕ) → m ≤ k → (k ≡ m) ⊎ (m < k)
 at_or_behind m k h = grind (arith, h)
 
-low_or_high : (k i : ℕ) → (k < i) ⊎ (i ≤ k)
+pub low_or_high : (k i : ℕ) → (k < i) ⊎ (i ≤ k)
 low_or_high k i = grind arith
 
 module _ (w : World) (xs : List (Option JavaType)) (chain : IsChain w xs) where

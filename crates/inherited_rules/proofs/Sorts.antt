@@ -1,9 +1,8 @@
 -- Class types without arguments beside other results, and what the unchecked conversion (JLS 5.1.9) does for them.
-use Rattle.std.proofs.Common.{◌≡◌, ℕ, ◌-◌, ◌+◌, ◌<◌, ◌≤◌, zero, suc, false, true, not, Bool, List, [], ◌∷◌, Option, None, Some, ◌⊎◌, inl, inr, ◌↔◌, IsTrue, Result, Ok, Err, IfOk, refl, sym, ap, ◌∙◌, subst, length, arith}
+use Rattle.std.proofs.Common.{◌≡◌, ℕ, ◌+◌, ◌<◌, ◌≤◌, false, true, not, Bool, List, [], ◌∷◌, Option, None, Some, ◌⊎◌, inl, inr, ◌↔◌, IsTrue, Result, Ok, Err, IfOk, refl, sym, ap, ◌∙◌, subst, length, arith}
 use Rattle.std.specs.Prelude.{slice_get}
 use Rattle.std.specs.List.{Contains}
 use Rattle.class_world.specs.declared.world.World.{World}
-use Rattle.class_world.specs.declared.world.TypeInfo.{TypeInfo}
 use Rattle.class_world.specs.declared.world.JavaType.{JavaType}
 use Rattle.class_world.specs.declared.world.JavaType.TheVariants as ty
 use Rattle.class_world.specs.Types.{IsReference, of_class, of_variable, of_array, IsTypeOver}
@@ -21,7 +20,7 @@ use Rattle.inherited_rules.specs.declared.chain.Results.{Results}
 use Rattle.inherited_rules.specs.Rules.{FitsResult}
 use Rattle.inherited_rules.specs.Parts.{IsResult, IsUnlike}
 use Rattle.inherited_rules.specs.Chains.{AreKept, HasUnlike, IsAdded, IsAmong, IsAnyUnlike, IsBare, IsBelow, IsChain, IsChainOf, IsFirstAbove, IsFirstNotBelow, IsOther, IsPut, IsUnlikeOne}
-use Rattle.inherited_rules.proofs.Chained.{below_fits, chain_like, chain_up}
+use Rattle.inherited_rules.proofs.Chained.{below_fits, chain_like, chain_up, low_or_high}
 
 some_items : (xs : List JavaType) (n : ℕ) → (xs ≡ [] → ⊥) → length xs ≡ n → 0 < n
 some_items [] n some e = absurd (some refl)
@@ -30,9 +29,6 @@ some_items (x ∷ xs) n some e = omega (arith, e)
 pub not_told : (told : Bool) → (IsTrue told → ⊥) → IsTrue (not told)
 not_told true none = absurd (none refl)
 not_told false none = refl
-
-low_or_high : (k i : ℕ) → (k < i) ⊎ (i ≤ k)
-low_or_high k i = grind arith
 
 -- a result above a type is a type above it
 below_type : (w : World) (r q : Option JavaType) (t : JavaType) → r ≡ Some t → IsBelow w r q → (v : JavaType) × (q ≡ Some v) × Subtype w t v

@@ -144,7 +144,7 @@ fn insert_all(set: &mut HashSet<u32>, xs: &[u32]) -> Result<(), NoMemory>
     Ok(())
 }
 
-/// Whether two of the methods have unlike results, as the type sees them. Takes comparisons for the methods times the halvings of their results.
+/// Whether two of the methods have unlike results, as the type sees them. Takes a few comparisons for each of them and each time that the list of their different results can be halved.
 fn has_unlike(alloc: Global, w: &World, c: u32, methods: &[u32]) -> Result<bool, NoMemory>
     requires sound { IsSound w.now }
     requires typed { HaveTypes w.now }

@@ -1,4 +1,4 @@
-use Rattle.std.proofs.Common.{ℕ, ◌+◌, ◌-◌, ◌<◌, refl, arith}
+use Rattle.std.proofs.Common.{◌+◌, ◌-◌, refl, arith}
 use Rattle.std.specs.Prelude.{◌/◌}
 use Rattle.inherited_rules.specs.Chains.{IsBelow}
 use Rattle.inherited_rules.proofs.Chained.{above_before, not_above_after, cut_all, cut_none, item_is, lower_half, middle_within, upper_half}

@@ -1,4 +1,4 @@
-use Rattle.std.proofs.Common.{◌-◌, ◌+◌, ◌≤◌, ◌<◌, ℕ, refl, arith}
+use Rattle.std.proofs.Common.{◌-◌, refl, arith}
 use Rattle.inherited_rules.proofs.Chained.{item_is}
 use Rattle.inherited_rules.proofs.Sorts.{like_between, like_none_between, not_told, unlike_inside}
 use Rattle.inherited_rules.proofs.chain.is_unlike_one.Goals as goal
@@ -14,6 +14,26 @@ first_above-end-requires-clause-results c = c.requires.others.types
 
 pub first_above-end-requires-clause-chain : goal.first_above-end-requires-clause-chain
 first_above-end-requires-clause-chain c = c.requires.others.chain
+
+pub returns-then-end-start : goal.returns-then-end-start
+returns-then-end-start c = (
+  λ h. absurd (cc h),
+  λ h. absurd (like_none_between c.args.w.now c.requires.sound c.args.r.now c.args.chain.now c.first_not_below-start.result c.first_above-end.result c.requires.result c.requires.bare c.requires.others c.first_not_below-start.ensures c.first_above-end.ensures c.if-end-start.true h),
+)
+
+pub returns-then-not-fits_result : goal.returns-then-not-fits_result
+returns-then-not-fits_result c =
+    let xs = c.args.chain.now in
+    let start = c.first_not_below-start.result in
+    let a = c.index-chain-start.result in
+    let lt = c.if-end-start.false in
+    let within = c.first_above-end.ensures.within in
+    let at_a = item_is xs start a (omega (arith, lt, within)) c.index-chain-start.is in (
+      λ h.
+          unlike_inside c.args.w.now c.requires.sound c.args.r.now xs start c.first_above-end.result c.requires.result c.requires.bare c.requires.others c.first_not_below-start.ensures c.first_above-end.ensures start a (omega arith) at_a
+          (λ fits. let yes = c.fits_result.ensures.1 fits in cc (yes, c.if-not-fits_result.true)),
+      λ h. refl,
+    )
 
 pub returns : goal.returns
 returns c =

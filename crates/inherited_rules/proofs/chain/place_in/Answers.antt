@@ -1,4 +1,4 @@
-use Rattle.std.proofs.Common.{ℕ, ◌+◌, ◌-◌, ◌<◌, refl, arith}
+use Rattle.std.proofs.Common.{◌+◌, ◌-◌, refl, arith}
 use Rattle.std.specs.Prelude.{◌/◌}
 use Rattle.method_ties.proofs.Firsts.{at_contains}
 use Rattle.inherited_rules.specs.Chains.{IsBelow}
