@@ -69,7 +69,6 @@ module _ (w : World) (sound : IsSound w) where
   sups = class_supers w sound.declared
 
   -- a class with arguments has them all, and is generic
-
   full_class : (n g : ℕ) (xs : List JavaType) → IsTypeOver w n (ty.Class g xs) → (xs ≡ [] → ⊥) → IsFull w g xs
   full_class n g xs over some =
       let parts = class_parts w n (ty.Class g xs) g xs over refl in
@@ -82,6 +81,7 @@ module _ (w : World) (sound : IsSound w) where
   unchecked_generic : (s t : JavaType) → IsOfWorld w t → (free : IsUnchecked w s t) → IsGeneric w free.0
   unchecked_generic s t of_t free = generic_class of_t.0 free.0 free.1.0 (subst (IsTypeOver w of_t.0) free.1.1 of_t.1) free.1.2
 
+  -- a type above which Object is the one class fits nothing by an unchecked conversion
   object_free : (s t : JavaType) → UnderObject w sound s → IsOfWorld w t → IsUnchecked w s t → ⊥
   object_free s t under of_t free =
       let generic = unchecked_generic s t of_t free in
@@ -99,6 +99,7 @@ module _ (w : World) (sound : IsSound w) where
   other_free s t (of_variable k) of_s of_t other free = object_free s t (variable_under w sound s k refl) of_t free
   other_free s t (of_array x) of_s of_t other free = object_free s t (array_under w sound s x refl) of_t free
 
+  -- so between two results that are no class types without arguments subtypes alone fit
   fits_other : (r q : Option JavaType) → IsResult w r → IsResult w q → IsOther r → FitsResult w r q → IsBelow w r q
   fits_other None None of_r of_q other fits = tt
   fits_other None (Some t) of_r of_q other fits = absurd fits
@@ -110,10 +111,12 @@ module _ (w : World) (sound : IsSound w) where
 
   -- ---- results kept by their sorts
 
+  -- what follows from what is told
   pub told_on : {A E : Type 0} (P Q : A → Type 0) (told : Result A E) → ((a : A) → P a → Q a) → IfOk told P → IfOk told Q
   told_on P Q (Ok a) on h = on a h
   told_on P Q (Err e) on h = tt
 
+  -- a chain stays one of its sort
   sort_put : (Sort : Option JavaType → Type 0) (old new : List (Option JavaType)) (r : Option JavaType) → IsChainOf w Sort old → IsResult w r → Sort r → IsChain w new × ((q : Option JavaType) → Contains new q ↔ (Contains old q ⊎ (q ≡ r)))
       → IsChainOf w Sort new
   sort_put Sort old new r kept is sort put = record {

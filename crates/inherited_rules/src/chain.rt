@@ -59,7 +59,7 @@ impl Results {
         }
     }
 
-    /// Whether two of the results are unlike. Takes for each class type without arguments a comparison for each time that the others can be halved, twice, and two more.
+    /// Whether two of the results are unlike. For each class type without arguments it takes two comparisons for each time that the others can be halved, and two more.
     pub(crate) fn has_unlike(&self, w: &World) -> bool
         requires sound { IsSound w.now }
         requires kept { AreKept w.now self.now }
