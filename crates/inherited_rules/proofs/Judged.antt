@@ -14,7 +14,7 @@ use Rattle.method_ties.proofs.Firsts.{Among, among_all, at_contains}
 use Rattle.inherited_rules.specs.declared.chain.Results.{Results}
 use Rattle.inherited_rules.specs.Rules.{FitsResult, HasUnlikeResults, IsInherited}
 use Rattle.inherited_rules.specs.Parts.{AreJudged, AreUnlike, HasUnlikePair, IsJudged, IsUnlike}
-use Rattle.inherited_rules.specs.Chains.{AreKept, IsAdded, IsAmong}
+use Rattle.inherited_rules.specs.Chains.{AreKept, HasUnlike, IsAdded, IsAmong}
 use Rattle.inherited_rules.proofs.Chained.{fits_itself}
 use Rattle.inherited_rules.proofs.Members.{one_result}
 use Rattle.inherited_rules.proofs.Named.{lower_or_last}
@@ -22,7 +22,7 @@ use Rattle.inherited_rules.proofs.Pairs.{signature_swap, signature_through}
 
 -- ---- the results of methods
 
--- of the first i methods these are the results, and no two are unlike
+-- of the first i methods these are the results
 pub record AreSeen (w : World) (c : ℕ) (ms : List ℕ) (i : ℕ) (t : Results) : Type 0 where
   pub kept : AreKept w t
   pub all : (m : ℕ) (r : Option JavaType) → Among ms i m → HasResult w c m r → IsAmong t r
@@ -78,9 +78,17 @@ module _ (w : World) (c : ℕ) where
       let k = seen.from h.1 h.3 in
       (m, k.0, at_contains ms i m at, at_contains ms k.1.0 k.0 k.1.2, (h.0, h.1, h.2, k.2, h.4))
 
-  pub seen_like : (ms : List ℕ) (i : ℕ) (t : Results) → length ms ≤ i → AreSeen w c ms i t → (m k : ℕ) → Contains ms m → Contains ms k → AreUnlike w c m k → ⊥
-  seen_like ms i t full seen m k has_m has_k unlike =
-      seen.kept.like unlike.0 unlike.1 (seen.all m unlike.0 (among_all ms i m full has_m) unlike.2) (seen.all k unlike.1 (among_all ms i k full has_k) unlike.3) unlike.4
+  -- the results of two methods are unlike, where two of these are
+  pub seen_pair : (ms : List ℕ) (i : ℕ) (t : Results) → AreSeen w c ms i t → HasUnlike w t → (m : ℕ) × (k : ℕ) × Contains ms m × Contains ms k × AreUnlike w c m k
+  seen_pair ms i t seen h =
+      let m = seen.from h.0 h.2 in
+      let k = seen.from h.1 h.3 in
+      (m.0, k.0, at_contains ms m.1.0 m.0 m.1.2, at_contains ms k.1.0 k.0 k.1.2, (h.0, h.1, m.2, k.2, h.4))
+
+  pub seen_like : (ms : List ℕ) (i : ℕ) (t : Results) → length ms ≤ i → AreSeen w c ms i t → ((m : ℕ) × (k : ℕ) × Contains ms m × Contains ms k × AreUnlike w c m k) → HasUnlike w t
+  seen_like ms i t full seen h =
+      let unlike = h.4 in
+      (unlike.0, unlike.1, seen.all h.0 unlike.0 (among_all ms i h.0 full h.2) unlike.2, seen.all h.1 unlike.1 (among_all ms i h.1 full h.3) unlike.3, unlike.4)
 
   -- what is told of a method's result
   pub result_added : (m : ℕ) (old new : Results) (r : Option JavaType) (told : Bool) → TellsResult w c m (Some r) → IsAdded w old new r told → (IsTrue told → ⊥)

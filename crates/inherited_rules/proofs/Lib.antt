@@ -3,6 +3,7 @@ pub mod Members
 pub mod Named
 pub mod Pairs
 pub mod Chained
+pub mod Sorts
 pub mod Judged
 pub mod Numbering
 pub mod Firsts

@@ -1,22 +1,21 @@
 //! The results of methods of one signature, kept in the order of their types.
 
 ghost use Rattle.std.specs.Prelude.{◌≡◌, ◌↔◌, IsTrue, IfOk, Option};
-ghost use Rattle.std.specs.List.{Contains};
 ghost use Rattle.class_world.specs.declared.world.World as worlds;
 ghost use Rattle.class_world.specs.declared.world.JavaType as types;
 ghost use Rattle.class_world.specs.Sound.{IsSound};
-ghost use Rattle.inherited_rules.specs.Parts.{IsResult, IsUnlike};
-ghost use Rattle.inherited_rules.specs.Chains.{AreKept, AreResults, IsAdded, IsAmong, IsBetween, IsChain, IsPlace, IsSide};
+ghost use Rattle.inherited_rules.specs.Parts.{IsResult};
+ghost use Rattle.inherited_rules.specs.Chains.{AreKept, AreResults, HasUnlike, IsAdded, IsAmong, IsAnyUnlike, IsBare, IsChain, IsChainOf, IsFirstAbove, IsFirstNotBelow, IsOther, IsPlace, IsPut, IsSide, IsUnlikeOne};
 
 use crate::fit::{fits_result, is_below, is_same_result};
 use class_world::{JavaType, World};
 use java_tree::NoMemory;
 use std::alloc::Global;
 
-/// Results, each once, of which no two are unlike. Each of `chain` is a subtype of those after it. Halving it gave no place for those of `others`, so that some fit by an unchecked conversion.
+/// Results, each once, in two chains: the class types without arguments, which are raw types and those of classes without parameters, and all the others. Each of a chain is a subtype of those after it, so that no two of one chain are unlike.
 #[derive(Drop)]
 pub(crate) struct Results {
-    chain: Vec<Option<JavaType>>,
+    bare: Vec<Option<JavaType>>,
     others: Vec<Option<JavaType>>,
 }
 
@@ -28,7 +27,7 @@ enum Side {
     Apart,
 }
 
-/// Where a result stands in a chain: it is there, it can be put at a place, or halving found no place.
+/// Where a result stands in a chain: it is there, it can be put at a place, or it has no place, since one of the chain is neither below nor above it.
 enum Place {
     There,
     At(usize),
@@ -41,56 +40,64 @@ impl Results {
         ensures kept { (w : worlds.World) → AreKept w result }
     {
         Results {
-            chain: Vec::new(alloc),
+            bare: Vec::new(alloc),
             others: Vec::new(alloc),
         }
     }
 
-    /// Tells whether one of the results is unlike this one, and else adds it. Takes a comparison for each time that the chain can be halved, and for each of the others; and one for each of the chain where it has no place for the result.
+    /// Tells whether the chain of the result's sort has one that is unlike it, and else adds it there. Takes at most three comparisons for each time that the chain can be halved: between two of one sort no unchecked conversion helps (JLS 5.1.9), so that they are unlike where neither is a subtype.
     pub(crate) fn add(&mut self, w: &World, r: Option<JavaType>) -> Result<bool, NoMemory>
         requires sound { IsSound w.now }
         requires result { IsResult w.now r }
         requires kept { AreKept w.now self.old }
         ensures { IfOk result (λ unlike. IsAdded w.now self.old self.new r unlike) }
     {
-        match place_in(w, self.chain.as_slice(), &r) {
-            Place::There => Ok(false),
-            Place::At(at) => self.put(w, at, r),
-            Place::Nowhere => self.add_other(w, r),
+        if is_bare(&r) {
+            put_in(w, &mut self.bare, r)
+        } else {
+            put_in(w, &mut self.others, r)
         }
     }
 
-    fn put(&mut self, w: &World, at: usize, r: Option<JavaType>) -> Result<bool, NoMemory>
+    /// Whether two of the results are unlike. For each class type without arguments it takes two comparisons for each time that the others can be halved, and two more.
+    pub(crate) fn has_unlike(&self, w: &World) -> bool
         requires sound { IsSound w.now }
-        requires result { IsResult w.now r }
-        requires kept { AreKept w.now self.old }
-        requires place { IsBetween w.now self.old.chain.items r at at }
-        ensures { IfOk result (λ unlike. IsAdded w.now self.old self.new r unlike) }
+        requires kept { AreKept w.now self.now }
+        ensures { IsTrue result ↔ HasUnlike w.now self.now }
     {
-        if is_unlike_one(w, &r, self.others.as_slice()) {
-            return Ok(true);
-        }
-        self.chain.insert(at, r)?;
-        Ok(false)
+        is_any_unlike(w, self.bare.as_slice(), self.others.as_slice())
     }
+}
 
-    fn add_other(&mut self, w: &World, r: Option<JavaType>) -> Result<bool, NoMemory>
-        requires sound { IsSound w.now }
-        requires result { IsResult w.now r }
-        requires kept { AreKept w.now self.old }
-        ensures { IfOk result (λ unlike. IsAdded w.now self.old self.new r unlike) }
-    {
-        if is_there(&r, self.others.as_slice()) {
-            return Ok(false);
+/// Whether it is a class type without arguments.
+fn is_bare(r: &Option<JavaType>) -> bool
+    ensures { IsTrue result ↔ IsBare r.now }
+{
+    match r {
+        Some(JavaType::Class(_, args)) => args.is_empty(),
+        _ => false,
+    }
+}
+
+/// Puts a result at its place in a chain, if it is not there; tells whether it has none.
+fn put_in(
+    w: &World,
+    chain: &mut Vec<Option<JavaType>>,
+    r: Option<JavaType>,
+) -> Result<bool, NoMemory>
+    requires sound { IsSound w.now }
+    requires result { IsResult w.now r }
+    requires results { AreResults w.now chain.old.items }
+    requires chain { IsChain w.now chain.old.items }
+    ensures { IfOk result (λ apart. IsPut w.now chain.old.items chain.new.items r apart) }
+{
+    match place_in(w, chain.as_slice(), &r) {
+        Place::There => Ok(false),
+        Place::At(at) => {
+            chain.insert(at, r)?;
+            Ok(false)
         }
-        if is_unlike_one(w, &r, self.chain.as_slice()) {
-            return Ok(true);
-        }
-        if is_unlike_one(w, &r, self.others.as_slice()) {
-            return Ok(true);
-        }
-        self.others.push(r)?;
-        Ok(false)
+        Place::Nowhere => Ok(true),
     }
 }
 
@@ -132,36 +139,79 @@ fn side_of(w: &World, r: &Option<JavaType>, q: &Option<JavaType>) -> Side
     }
 }
 
-fn is_there(r: &Option<JavaType>, results: &[Option<JavaType>]) -> bool
-    ensures { IsTrue result ↔ Contains results.now r.now }
+/// Whether one of the class types without arguments and one of the others are unlike.
+fn is_any_unlike(w: &World, bare: &[Option<JavaType>], others: &[Option<JavaType>]) -> bool
+    requires sound { IsSound w.now }
+    requires bare { IsChainOf w.now IsBare bare.now }
+    requires others { IsChainOf w.now IsOther others.now }
+    ensures { IsTrue result ↔ IsAnyUnlike w.now bare.now others.now }
 {
-    for q in results {
-        if is_same_result(r, q) {
+    for r in bare {
+        if is_unlike_one(w, r, others) {
             return true;
         }
     }
     false
 }
 
-/// Whether one of the results and this one are unlike: neither fits the other.
-fn is_unlike_one(w: &World, r: &Option<JavaType>, results: &[Option<JavaType>]) -> bool
+/// Whether a class type without arguments is unlike one of the others. Those of the chain that are neither below it nor above it stand together, and it has to fit each by an unchecked conversion. If it fits the first, it is below the raw types of all of them; and if it fits the last, it is below no parameterization of one of them, since a parameterization of the last's class would be above that. So it is asked of these two alone.
+fn is_unlike_one(w: &World, r: &Option<JavaType>, chain: &[Option<JavaType>]) -> bool
     requires sound { IsSound w.now }
     requires result { IsResult w.now r.now }
-    requires results { AreResults w.now results.now }
-    ensures { IsTrue result ↔ ((q : Option types.JavaType) × Contains results.now q × IsUnlike w.now r.now q) }
+    requires bare { IsBare r.now }
+    requires others { IsChainOf w.now IsOther chain.now }
+    ensures { IsTrue result ↔ IsUnlikeOne w.now r.now chain.now }
 {
-    for q in results {
-        if is_unlike(w, r, q) {
-            return true;
-        }
+    let start = first_not_below(w, chain, r);
+    let end = first_above(w, chain, r);
+    if end <= start {
+        return false;
     }
-    false
+    let last = end - 1;
+    if !fits_result(w, r, &chain[start]) {
+        return true;
+    }
+    !fits_result(w, r, &chain[last])
 }
 
-fn is_unlike(w: &World, r: &Option<JavaType>, q: &Option<JavaType>) -> bool
+/// The place in the chain before which each is below the result, and from which on none is.
+fn first_not_below(w: &World, chain: &[Option<JavaType>], r: &Option<JavaType>) -> usize
     requires sound { IsSound w.now }
-    requires types { IsResult w.now r.now × IsResult w.now q.now }
-    ensures { IsTrue result ↔ IsUnlike w.now r.now q.now }
+    requires result { IsResult w.now r.now }
+    requires results { AreResults w.now chain.now }
+    requires chain { IsChain w.now chain.now }
+    ensures { IsFirstNotBelow w.now chain.now r.now result }
 {
-    !fits_result(w, r, q) && !fits_result(w, q, r)
+    let mut low = 0;
+    let mut high = chain.len();
+    while low < high {
+        let middle = low + (high - low) / 2;
+        if is_below(w, &chain[middle], r) {
+            low = middle + 1;
+        } else {
+            high = middle;
+        }
+    }
+    low
+}
+
+/// The place in the chain before which the result is below none, and from which on it is below each.
+fn first_above(w: &World, chain: &[Option<JavaType>], r: &Option<JavaType>) -> usize
+    requires sound { IsSound w.now }
+    requires result { IsResult w.now r.now }
+    requires results { AreResults w.now chain.now }
+    requires chain { IsChain w.now chain.now }
+    ensures { IsFirstAbove w.now chain.now r.now result }
+{
+    let mut low = 0;
+    let mut high = chain.len();
+    while low < high {
+        let middle = low + (high - low) / 2;
+        if is_below(w, r, &chain[middle]) {
+            high = middle;
+        } else {
+            low = middle + 1;
+        }
+    }
+    low
 }

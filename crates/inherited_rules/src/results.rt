@@ -144,7 +144,7 @@ fn insert_all(set: &mut HashSet<u32>, xs: &[u32]) -> Result<(), NoMemory>
     Ok(())
 }
 
-/// Whether two of the methods have unlike results, as the type sees them.
+/// Whether two of the methods have unlike results, as the type sees them. Takes a few comparisons for each of them and each time that the list of their different results can be halved.
 fn has_unlike(alloc: Global, w: &World, c: u32, methods: &[u32]) -> Result<bool, NoMemory>
     requires sound { IsSound w.now }
     requires typed { HaveTypes w.now }
@@ -156,10 +156,11 @@ fn has_unlike(alloc: Global, w: &World, c: u32, methods: &[u32]) -> Result<bool,
             return Ok(true);
         }
     }
-    Ok(false)
+    let found = results.has_unlike(w);
+    Ok(found)
 }
 
-/// Tells whether one of the results is unlike that of the method, if the type sees it, and else adds it.
+/// Tells whether one of the results, of the same sort, is unlike that of the method, if the type sees it, and else adds it.
 fn add_result(
     alloc: Global,
     w: &World,

@@ -552,7 +552,7 @@ const MEMBER_RULES: [Case<'static>; 22] = [
 ];
 
 /// Library files with generic types, whose names are those of the package `l`.
-const GENERIC: [Case<'static>; 39] = [
+const GENERIC: [Case<'static>; 42] = [
     (
         "package l; class A<T> { void m(T x) { } } class B extends A<String> { void m(String x) { } }",
         &[
@@ -701,6 +701,20 @@ const GENERIC: [Case<'static>; 39] = [
     (
         "package l; class G<T> { } interface I { G<String> m(); } interface J { G<Object> m(); } interface K extends I, J { }",
         &[Refused(19, "K")],
+    ),
+    // By an unchecked conversion the raw A fits K<Object>, and not H<Object>, since H<String> is above it by way of B. javac takes it for H<Object> all the same.
+    (
+        "package l; interface H<T> { } interface K<U> extends H<U> { } interface B extends H<String> { } interface A<T> extends K<String>, B { } interface I { A m(); } interface J { K<Object> m(); } interface L { H<Object> m(); } interface M extends I, J, L { }",
+        &[Refused(19, "M")],
+    ),
+    (
+        "package l; interface H<T> { } interface K<U> extends H<U> { } interface B extends H<String> { } interface A<T> extends K<String>, B { } interface I { A m(); } interface J { K<String> m(); } interface L { H<String> m(); } interface M extends I, J, L { }",
+        &[Apart("I.m", "J.m")],
+    ),
+    // Here it fits both by an unchecked conversion.
+    (
+        "package l; interface H<T> { } interface K<U> extends H<U> { } interface A<T> extends K<String> { } interface I { A m(); } interface J { K<Object> m(); } interface L { H<Object> m(); } interface M extends I, J, L { }",
+        &[Apart("I.m", "J.m")],
     ),
     (
         "package l; interface I<T> { T m(); } interface J { String m(); } interface K extends I<Exception>, J { }",

@@ -1,6 +1,6 @@
 use Rattle.std.proofs.Common.{refl, get_or}
 use Rattle.std.proofs.lemmas.Option.{slice_get-get_or}
-use Rattle.inherited_rules.proofs.Judged.{seen_none, seen_next, seen_unlike, seen_like}
+use Rattle.inherited_rules.proofs.Judged.{seen_none, seen_next, seen_unlike, seen_pair, seen_like}
 use Rattle.inherited_rules.proofs.results.has_unlike.Goals as goal
 
 pub loop-m-init : goal.loop-m-init
@@ -23,4 +23,10 @@ loop-m-preserved c =
     (c.in_ok-add_result.ensures.no (λ yes. cc (yes, c.if-branch.false)))
 
 pub returns : goal.returns
-returns c = (λ h. absurd (cc h), λ h. absurd (seen_like c.args.w.now c.args.c c.args.methods.now c.loop-m.m-index c.loop-m.results c.loop-m-test.false c.loop-m.invariant h.0 h.1 h.2 h.3 h.4))
+returns c =
+    let ms = c.args.methods.now in
+    let i = c.loop-m.m-index in
+    (λ h. seen_pair c.args.w.now c.args.c ms i c.loop-m.results c.loop-m.invariant (c.has_unlike-found.ensures.0 h), λ h. c.has_unlike-found.ensures.1 (seen_like c.args.w.now c.args.c ms i c.loop-m.results c.loop-m-test.false c.loop-m.invariant h))
+
+pub has_unlike-found-requires-clause-kept : goal.has_unlike-found-requires-clause-kept
+has_unlike-found-requires-clause-kept c = c.loop-m.invariant.kept

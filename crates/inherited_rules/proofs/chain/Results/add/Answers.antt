@@ -1,22 +1,23 @@
-use Rattle.std.proofs.Common.{Option, List, inl, sym, subst}
-use Rattle.std.specs.List.{Contains}
-use Rattle.class_world.specs.declared.world.JavaType.{JavaType}
-use Rattle.inherited_rules.specs.Chains.{AreResults, IsBetween, IsChain, IsPlace}
-use Rattle.inherited_rules.proofs.Chained.{added_same}
+use Rattle.std.proofs.Common.{refl}
+use Rattle.inherited_rules.specs.declared.chain.Results.{Results}
+use Rattle.inherited_rules.specs.Chains.{IsAdded, IsPut}
+use Rattle.inherited_rules.proofs.Sorts.{added_bare, added_other, told_on}
 use Rattle.inherited_rules.proofs.chain.Results.add.Goals as goal
 
-pub place_in-requires-clause-results : goal.place_in-requires-clause-results
-place_in-requires-clause-results c = subst (AreResults c.args.w.now) (sym c.as_slice.ensures.value) (λ r h. c.requires.kept.types r (inl h))
+pub returns-then-is_bare : goal.returns-then-is_bare
+returns-then-is_bare c =
+    let w = c.args.w.now in
+    let r = c.args.r in
+    let old = c.args.self.now in
+    let new : Results = record { bare = c.put_in.new.chain; others = old.others } in
+    told_on w c.requires.sound (IsPut w old.bare.items new.bare.items r) (IsAdded w old new r) c.put_in.result
+    (λ u put. added_bare w c.requires.sound old new r u c.requires.kept c.requires.result (c.is_bare.ensures.0 c.if-is_bare.true) refl put) c.put_in.ensures
 
-pub place_in-requires-clause-chain : goal.place_in-requires-clause-chain
-place_in-requires-clause-chain c = subst (IsChain c.args.w.now) (sym c.as_slice.ensures.value) c.requires.kept.chain
-
-pub returns-in-There : goal.returns-in-There
-returns-in-There c =
-    let has = subst (IsPlace c.args.w.now c.as_slice.result.now c.args.r) c.in-There.is c.place_in.ensures in
-    added_same c.args.w.now c.args.self.now c.args.r c.requires.kept (inl (subst (λ (l : List (Option JavaType)). Contains l c.args.r) c.as_slice.ensures.value has))
-
-pub put-requires-clause-place : goal.put-requires-clause-place
-put-requires-clause-place c =
-    let between = subst (IsPlace c.args.w.now c.as_slice.result.now c.args.r) c.in-At.is c.place_in.ensures in
-    subst (λ (l : List (Option JavaType)). IsBetween c.args.w.now l c.args.r c.in-At.at c.in-At.at) c.as_slice.ensures.value between
+pub returns-else-is_bare : goal.returns-else-is_bare
+returns-else-is_bare c =
+    let w = c.args.w.now in
+    let r = c.args.r in
+    let old = c.args.self.now in
+    let new : Results = record { bare = old.bare; others = c.put_in-else-is_bare.new.chain } in
+    told_on w c.requires.sound (IsPut w old.others.items new.others.items r) (IsAdded w old new r) c.put_in-else-is_bare.result
+    (λ u put. added_other w c.requires.sound old new r u c.requires.kept c.requires.result (λ bare. let yes = c.is_bare.ensures.1 bare in cc (yes, c.if-is_bare.false)) refl put) c.put_in-else-is_bare.ensures
