@@ -1,15 +1,16 @@
 -- What follows from the changes of the maps.
-use Rattle.std.proofs.Common.{◌≡◌, ℕ, ◌+◌, ◌<◌, Bool, true, false, List, [], ◌∷◌, Option, Some, None, inl, inr, refl, sym, ap, ◌∙◌, subst, length, get_or, take}
+use Rattle.std.proofs.Common.{◌≡◌, ℕ, ◌+◌, ◌<◌, ◌↔◌, Bool, true, false, List, [], ◌∷◌, Option, Some, None, inl, inr, refl, sym, ap, ◌∙◌, subst, length, get_or, take}
 use Rattle.std.specs.Prelude.{Contains, ◌==◌, if◌then◌else◌, Result, Ok, Err, IfOk}
 use Rattle.std.specs.List.{fold}
-use Rattle.std.proofs.lemmas.Bool.{eqb-true, eq-eqb}
+use Rattle.std.specs.Option.{option_or}
+use Rattle.std.proofs.lemmas.Bool.{cases_eq, cond-false, cond-true, eq-eqb, ne_eqb}
 use Rattle.std.proofs.lemmas.List.{take_more}
 use Rattle.std.proofs.lemmas.List.Sums.{fold-append}
 use Rattle.shared_maps.specs.declared.Map.{Map}
-use Rattle.shared_maps.specs.Trees.{Memory}
-use Rattle.shared_maps.specs.Maps.{AreEntries, IsMap, KeepsMaps, value_in}
-use Rattle.shared_maps.proofs.Kept.{keeps_itself, keeps_both}
-use Rattle.member_fields.specs.Values.{Changes, joined, more_at}
+use Rattle.shared_maps.specs.Trees.{Differ, Memory}
+use Rattle.shared_maps.specs.Maps.{AreDiffering, KeepsMaps, value_in}
+use Rattle.shared_maps.proofs.Kept.{keeps_both}
+use Rattle.member_fields.specs.Values.{Changes, joined, several_at}
 use Rattle.member_fields.specs.Sums.{HasMap, Summarizes, Sums}
 use Rattle.member_fields.proofs.Lists.{front_cases, contains_first, contains_later, none_contained}
 
@@ -26,88 +27,51 @@ changes_next old now new start map r g xs i d lt before step = record {
       ∙ ap (fold (g k) (value_in old start k)) (sym (take_more xs i d lt));
 }
 
--- the entries of a map put in one after the other
+-- several fields of each of some names
 
-pub joined_none : (v : Option ℕ) → joined v None ≡ v
-joined_none None = refl
-joined_none (Some x) = refl
-
-tested_same : (x : ℕ) → (x == x) ≡ true
-tested_same x = eq-eqb x x refl
-
-joined_again : (v : Option ℕ) (u : ℕ) → joined (joined v (Some u)) (Some u) ≡ joined v (Some u)
-joined_again None u = rw (tested_same u) refl
-joined_again (Some x) u = split (x == u) refl
+several_stays : (names : List ℕ) (k : ℕ) → fold (several_at k) (Some 0) names ≡ Some 0
+several_stays [] k = refl
+several_stays (name ∷ names) k = ap (λ v. fold (several_at k) v names) (split (k == name) (Some 0)) ∙ several_stays names k
   where
-    last : (b : Bool) → (0 == u) ≡ b → joined (Some 0) (Some u) ≡ Some 0
-    last true e = rw e refl
-    last false e = rw e refl
+    split : (b : Bool) (v : Option ℕ) → (if b then v else v) ≡ v
+    split true v = refl
+    split false v = refl
 
-    split : (b : Bool) → (x == u) ≡ b → joined (if b then Some x else Some 0) (Some u) ≡ (if b then Some x else Some 0)
-    split true e = rw e refl
-    split false e = last (0 == u) refl
+several_of : (names : List ℕ) (k : ℕ) (v : Option ℕ) → Contains names k → fold (several_at k) v names ≡ Some 0
+several_of [] k v has = absurd (none_contained k has)
+several_of (name ∷ names) k v has = elim (front_cases name names k has) [
+  | inl same ↦ ap (λ x. fold (several_at k) x names) (cond-true (k == name) (Some 0) v (eq-eqb k name same)) ∙ several_stays names k
+  | inr later ↦ several_of names k (several_at k v name) later
+]
 
--- where each entry of the key has the value u
-abbrev HasOnly : List (ℕ × ℕ) → ℕ → ℕ → Type 0
-HasOnly xs k u = (other : ℕ) → Contains xs (k, other) → other ≡ u
+several_of_others : (names : List ℕ) (k : ℕ) (v : Option ℕ) → (Contains names k → ⊥) → fold (several_at k) v names ≡ v
+several_of_others [] k v none = refl
+several_of_others (name ∷ names) k v none =
+    ap (λ x. fold (several_at k) x names)
+    (cond-false (k == name) (Some 0) v (ne_eqb k name (λ same. none (subst (Contains (name ∷ names)) (sym same) (contains_first name names)))))
+    ∙ several_of_others names k v (λ has. none (contains_later name names k has))
 
--- the first entry has the key
-first_only : (key value : ℕ) (xs : List (ℕ × ℕ)) (k u : ℕ) → HasOnly ((key, value) ∷ xs) k u → (k == key) ≡ true → value ≡ u
-first_only key value xs k u only e = only value (subst (λ n. Contains ((key, value) ∷ xs) (n, value)) (sym (eqb-true k key e)) (contains_first (key, value) xs))
+-- over what one of two values or the other has, where they differ
+several_join : (names : List ℕ) (k : ℕ) (a b : Option ℕ) → (Contains names k ↔ Differ a b) → fold (several_at k) (option_or a b) names ≡ joined a b
+several_join names k None b are = several_of_others names k b (λ has. let d = are.0 has in let so : None ≡ Some d.0 = d.2 in absurd (cc so))
+several_join names k (Some x) None are = several_of_others names k (Some x) (λ has. let d = are.0 has in let so : None ≡ Some d.1 = d.3 in absurd (cc so))
+several_join names k (Some x) (Some y) are = elim (cases_eq x y) [
+  | inl same ↦
+      several_of_others names k (Some x)
+      (λ has. let d = are.0 has in let left : Some x ≡ Some d.0 = d.2 in let right : Some y ≡ Some d.1 = d.3 in absurd (d.4 (let so : d.0 ≡ d.1 = cc (left, right, same) in so)))
+      ∙ sym (cond-true (x == y) (Some x) (Some 0) (eq-eqb x y same))
+  | inr other ↦ several_of names k (Some x) (are.1 (x, y, refl, refl, other)) ∙ sym (cond-false (x == y) (Some x) (Some 0) (ne_eqb x y other))
+]
 
-rest_only : (key value : ℕ) (xs : List (ℕ × ℕ)) (k u : ℕ) → HasOnly ((key, value) ∷ xs) k u → HasOnly xs k u
-rest_only key value xs k u only other h = only other (contains_later (key, value) xs (k, other) h)
-
-fold_idle : (xs : List (ℕ × ℕ)) (k u : ℕ) (v : Option ℕ) → HasOnly xs k u → joined v (Some u) ≡ v → fold (more_at k) v xs ≡ v
-fold_idle [] k u v only idle = refl
-fold_idle ((key, value) ∷ xs) k u v only idle = ap (λ x. fold (more_at k) x xs) (split (k == key) refl) ∙ fold_idle xs k u v (rest_only key value xs k u only) idle
-  where
-    split : (b : Bool) → (k == key) ≡ b → (if b then joined v (Some value) else v) ≡ v
-    split false e = refl
-    split true e = ap (λ x. joined v (Some x)) (first_only key value xs k u only e) ∙ idle
-
-fold_present : (xs : List (ℕ × ℕ)) (k u : ℕ) (v : Option ℕ) → HasOnly xs k u → Contains xs (k, u) → fold (more_at k) v xs ≡ joined v (Some u)
-fold_present [] k u v only has = absurd (none_contained (k, u) has)
-fold_present ((key, value) ∷ xs) k u v only has = split (k == key) refl (fold_present xs k u v (rest_only key value xs k u only))
-  where
-    split : (b : Bool) → (k == key) ≡ b → (Contains xs (k, u) → fold (more_at k) v xs ≡ joined v (Some u)) → fold (more_at k) (if b then joined v (Some value) else v) xs ≡ joined v (Some u)
-    split true e later =
-        ap (λ x. fold (more_at k) (joined v (Some x)) xs) (first_only key value xs k u only e)
-        ∙ fold_idle xs k u (joined v (Some u)) (rest_only key value xs k u only) (joined_again v u)
-    split false e later = elim (front_cases (key, value) xs (k, u) has) [
-      | inl is ↦ let key_is : k ≡ key = ap (λ (p : ℕ × ℕ). p.0) is in let yes : true ≡ false = sym (eq-eqb k key key_is) ∙ e in absurd (cc yes)
-      | inr h ↦ later h
-    ]
-
-fold_absent : (xs : List (ℕ × ℕ)) (k : ℕ) (v : Option ℕ) → ((u : ℕ) → Contains xs (k, u) → ⊥) → fold (more_at k) v xs ≡ v
-fold_absent [] k v none = refl
-fold_absent ((key, value) ∷ xs) k v none = ap (λ x. fold (more_at k) x xs) (split (k == key) refl) ∙ fold_absent xs k v (λ u h. none u (contains_later (key, value) xs (k, u) h))
-  where
-    split : (b : Bool) → (k == key) ≡ b → (if b then joined v (Some value) else v) ≡ v
-    split false e = refl
-    split true e = absurd (none value (subst (λ n. Contains ((key, value) ∷ xs) (n, value)) (sym (eqb-true k key e)) (contains_first (key, value) xs)))
-
-pub entries_join : (value : ℕ → Option ℕ) (xs : List (ℕ × ℕ)) → AreEntries value xs → (k : ℕ) (v : Option ℕ) → fold (more_at k) v xs ≡ joined v (value k)
-entries_join value xs are k v = split (value k) refl
-  where
-    split : (o : Option ℕ) → value k ≡ o → fold (more_at k) v xs ≡ joined v o
-    split None is = fold_absent xs k v (λ u has. let there : None ≡ Some u = sym is ∙ (are.each k u).0 has in absurd (cc there)) ∙ sym (joined_none v)
-    split (Some u) is = fold_present xs k u v (λ other has. let one : Some u ≡ Some other = sym is ∙ (are.each k other).0 has in let same : u ≡ other = cc one in sym same) ((are.each k u).1 is)
-
-pub entries_merged : (old new : Memory) (a b r : Map) (xs : List (ℕ × ℕ)) → AreEntries (value_in old b) xs → Changes old new a (λ k v. fold (more_at k) v xs) r
+pub several_merged : (old mid new : Memory) (a b both r : Map) (names : List ℕ) → AreDiffering (value_in old a) (value_in old b) names → KeepsMaps old mid
+    → ((k : ℕ) → value_in mid both k ≡ option_or (value_in old a k) (value_in old b k)) → Changes mid new both (λ k v. fold (several_at k) v names) r
     → Changes old new a (λ k v. joined v (value_in old b k)) r
-entries_merged old new a b r xs are changes = record {
+several_merged old mid new a b both r names are kept union changes = record {
   is_map = changes.is_map;
-  kept = changes.kept;
-  value = λ k below. changes.value k below ∙ entries_join (value_in old b) xs are k (value_in old a k);
-}
-
--- the first map is empty
-pub merged_with_empty : (m : Memory) (empty a b : Map) → ((k : ℕ) → value_in m empty k ≡ None) → a ≡ empty → IsMap m b → Changes m m a (λ k v. joined v (value_in m b k)) b
-merged_with_empty m empty a b none is is_map = record {
-  is_map = is_map;
-  kept = keeps_itself m;
-  value = λ k below. sym (ap (λ v. joined v (value_in m b k)) (ap (λ x. value_in m x k) is ∙ none k));
+  kept = keeps_both kept changes.kept;
+  value = λ k below.
+      changes.value k (subst (λ n. k < n) (sym kept.keys) below) ∙ ap (λ v. fold (several_at k) v names) (union k)
+      ∙ several_join names k (value_in old a k) (value_in old b k) (are.each k);
 }
 
 -- what maps say in a later memory

@@ -15,9 +15,9 @@ joined None b = b
 joined (Some x) None = Some x
 joined (Some x) (Some y) = if x == y then Some x else Some 0
 
--- the value at k after an entry was put in
-abbrev pub more_at : ℕ → Option ℕ → ℕ × ℕ → Option ℕ
-more_at k v entry = if k == entry.0 then joined v (Some entry.1) else v
+-- the value at k after several fields of a name were put in
+abbrev pub several_at : ℕ → Option ℕ → ℕ → Option ℕ
+several_at k v name = if k == name then Some 0 else v
 
 abbrev pub without : ℕ → Option ℕ → Option FieldInfo → Option ℕ
 without k v None = v

@@ -3,7 +3,7 @@
 ghost use Rattle.std.specs.Prelude.{◌≡◌, ℕ, ◌<◌, ◌^◌, ◌∷◌, [], Option, length, slice_get, IfOk};
 ghost use Rattle.std.specs.List.{fold};
 ghost use Rattle.shared_maps.specs.Maps.{IsMap, value_in};
-ghost use Rattle.member_fields.specs.Values.{Changes, more_at, without_at, with_at};
+ghost use Rattle.member_fields.specs.Values.{Changes, several_at, without_at, with_at};
 ghost use Rattle.member_fields.specs.Values as spec;
 
 use class_world::World;
@@ -25,37 +25,38 @@ pub(crate) fn joined(a: Option<u32>, b: Option<u32>) -> Option<u32>
     }
 }
 
-/// The map that has the fields of two maps. Takes time for the entries of the second, where the first is not empty.
+/// The map that has the fields of two maps. Takes time for what the two do not share: for the nodes of both trees where both have keys and do not share the node, and for the names at which the two maps have different values.
 pub(crate) fn merged(alloc: Global, maps: &mut SharedMaps, a: Map, b: Map) -> Result<Map, NoMemory>
     requires first { IsMap maps.old a }
     requires second { IsMap maps.old b }
     ensures { IfOk result (λ r. Changes maps.old maps.new a (λ k v. spec.joined v (value_in maps.old b k)) r) }
 {
-    if a == maps.empty() {
-        return Ok(b);
-    }
-    let entries = maps.entries(alloc, b)?;
-    with_entries(maps, a, entries.as_slice())
+    let different = maps.differing(alloc, a, b)?;
+    let both = maps.union(a, b)?;
+    with_several(maps, different.as_slice(), both)
 }
 
-fn with_entries(maps: &mut SharedMaps, start: Map, entries: &[(u32, u32)]) -> Result<Map, NoMemory>
+/// The map with several fields of each of some names.
+fn with_several(maps: &mut SharedMaps, names: &[u32], start: Map) -> Result<Map, NoMemory>
     requires { IsMap maps.old start }
-    ensures { IfOk result (λ r. Changes maps.old maps.new start (λ k v. fold (more_at k) v entries.now) r) }
+    ensures { IfOk result (λ r. Changes maps.old maps.new start (λ k v. fold (several_at k) v names.now) r) }
 {
     let mut map = start;
-    for entry in entries {
-        map = with_entry(maps, map, *entry)?;
+    for name in names {
+        map = with_several_of(maps, *name, map)?;
     }
     Ok(map)
 }
 
-fn with_entry(maps: &mut SharedMaps, map: Map, entry: (u32, u32)) -> Result<Map, NoMemory>
+/// Leaves a map that has several fields of the name as it is, so that it shares what it has with others.
+fn with_several_of(maps: &mut SharedMaps, name: u32, map: Map) -> Result<Map, NoMemory>
     requires { IsMap maps.old map }
-    ensures { IfOk result (λ r. Changes maps.old maps.new map (λ k v. more_at k v entry) r) }
+    ensures { IfOk result (λ r. Changes maps.old maps.new map (λ k v. several_at k v name) r) }
 {
-    let (name, value) = entry;
-    let both = joined(maps.get(map, name), Some(value));
-    maps.put(map, name, both)
+    match maps.get(map, name) {
+        Some(0) => Ok(map),
+        _ => maps.put(map, name, Some(0)),
+    }
 }
 
 /// The map without the names of some fields.

@@ -2,13 +2,14 @@
 use Rattle.std.proofs.Common.{◌≡◌, ℕ, ◌+◌, ◌<◌, ◌≤◌, ◌++◌, List, [], Option, None, Some, ◌⊎◌, inl, inr, ◌↔◌, refl, sym, ap, ◌∙◌, subst, length, arith}
 use Rattle.std.specs.Prelude.{slice_get, if◌then◌else◌, ◌==◌, Result, Ok, Err, IfOk}
 use Rattle.std.specs.List.{Contains}
+use Rattle.std.specs.Option.{option_or}
 use Rattle.std.proofs.lemmas.Bool.{cases_lt, cases_eq, eq-eqb, ne_eqb, cond-true, cond-false}
 use Rattle.std.proofs.lemmas.Option.{slice_get_within}
 use Rattle.std.proofs.lemmas.List.Elements.{Contains-append_left, Contains-append_right, Contains-append_cases}
 use Rattle.shared_maps.specs.declared.Map.{Map}
 use Rattle.shared_maps.specs.Trees.{Memory}
-use Rattle.shared_maps.specs.Maps.{IsMap, KeepsMaps, AreEntries, value_in}
-use Rattle.shared_maps.proofs.Views.{value_outside, value_within}
+use Rattle.shared_maps.specs.Maps.{AreDiffering, AreEntries, IsMap, KeepsMaps, value_in}
+use Rattle.shared_maps.proofs.Views.{value_outside}
 use Rattle.member_methods.specs.declared.tables.Tables.{Tables}
 use Rattle.member_methods.specs.Lists.{list_at, IsList, Grows, IsListOf}
 use Rattle.member_methods.specs.Tables.{listed, IsGood, Keeps, IsMapOf}
@@ -161,63 +162,93 @@ joined_there old new map key n here both good some same_maps same list = record 
     keeps : Keeps old new
     keeps = subst (λ (m : Memory). Keeps old (record { maps = m; lists = new.lists })) (sym same_maps) (keeps_grown old old.maps new.lists (record { keys = refl; map = λ m h. h; value = λ m h k. refl }) list.grows)
 
--- ---- all entries of a map joined to another
+-- the list is that of another map
+pub says_more : (old : Tables) (map more : Map) (key n : ℕ) → value_in old.maps more key ≡ Some n → (k m : ℕ)
+    → (Contains (listed old map k) m ⊎ ((k ≡ key) × Contains (list_at old.lists (Some n)) m)) ↔ (Contains (listed old map k) m ⊎ ((k ≡ key) × Contains (listed old more k) m))
+says_more old map more key n some k m = (
+  λ h. elim h [ inl x ↦ inl x | inr x ↦ inr (x.0, subst (λ l. Contains l m) (sym (at x.0)) x.1) ],
+  λ h. elim h [ inl x ↦ inl x | inr x ↦ inr (x.0, subst (λ l. Contains l m) (at x.0) x.1) ],
+)
+  where
+    at : k ≡ key → listed old more k ≡ list_at old.lists (Some n)
+    at same = ap (λ i. list_at old.lists (value_in old.maps more i)) same ∙ ap (list_at old.lists) some
 
--- so far: the first i entries of `more`
-abbrev pub IsJoinedFirst : Tables → Map → Map → List (ℕ × ℕ) → ℕ → ℕ → ℕ → Type 0
-IsJoinedFirst t map more entries i k m = Contains (listed t map k) m ⊎ ((j : ℕ) × (e : ℕ × ℕ) × (j < i) × (slice_get entries j ≡ Some e) × (k ≡ e.0) × Contains (list_at t.lists (Some e.1)) m)
+-- ---- two maps joined
 
-pub entry_list : (t : Tables) (more : Map) (entries : List (ℕ × ℕ)) → IsGood t more → AreEntries (value_in t.maps more) entries → (i : ℕ) (e : ℕ × ℕ) → slice_get entries i ≡ Some e
-    → (e.0 < t.maps.keys) × IsList t.lists e.1
-entry_list t more entries good are i e at =
-    let is = (are.each e.0 e.1).0 (at_contains entries i e at) in
-    (value_within t.maps more e.0 e.1 is, good.lists e.0 e.1 is)
+-- so far: what is at one of the maps' keys, and what `more` lists for the first i of the keys that differ
+abbrev pub IsJoinedFirst : Tables → Map → Map → List ℕ → ℕ → ℕ → ℕ → Type 0
+IsJoinedFirst t map more keys i k m =
+    Contains (list_at t.lists (option_or (value_in t.maps map k) (value_in t.maps more k))) m ⊎ ((j : ℕ) × (j < i) × (slice_get keys j ≡ Some k) × Contains (listed t more k) m)
 
-pub joined_next : (old now new : Tables) (map more mid next : Map) (entries : List (ℕ × ℕ)) (i : ℕ) (e : ℕ × ℕ) → IsGood old map → IsList old.lists e.1 → slice_get entries i ≡ Some e
-    → IsMapOf old now mid (IsJoinedFirst old map more entries i) → IsMapOf now new next (λ k m. Contains (listed now mid k) m ⊎ ((k ≡ e.0) × Contains (list_at now.lists (Some e.1)) m))
-    → IsMapOf old new next (IsJoinedFirst old map more entries (i + 1))
-joined_next old now new map more mid next entries i e good list at so_far step = record {
+-- the union
+pub joined_first : (old : Tables) (maps : Memory) (map more both : Map) (keys : List ℕ) → IsGood old map → IsGood old more → IsMap maps both → KeepsMaps old.maps maps
+    → ((k : ℕ) → value_in maps both k ≡ option_or (value_in old.maps map k) (value_in old.maps more k))
+    → IsMapOf old (record { maps = maps; lists = old.lists }) both (IsJoinedFirst old map more keys 0)
+joined_first old maps map more both keys good more_good there kept union = record {
+  good = record { there = there; lists = λ k n e. by k n (value_in old.maps map k) refl (sym (union k) ∙ e) };
+  keeps = keeps_grown old maps old.lists kept (λ n xs e. e);
+  has = λ k m.
+      let at : list_at old.lists (value_in maps both k) ≡ list_at old.lists (option_or (value_in old.maps map k) (value_in old.maps more k)) = ap (list_at old.lists) (union k) in (
+        λ x. inl (subst (λ l. Contains l m) at x),
+        λ h. elim h [ inl x ↦ subst (λ l. Contains l m) (sym at) x | inr x ↦ absurd (omega (arith, x.1)) ],
+      );
+}
+  where
+    by : (k n : ℕ) (o : Option ℕ) → value_in old.maps map k ≡ o → option_or o (value_in old.maps more k) ≡ Some n → IsList old.lists n
+    by k n None is e = more_good.lists k n e
+    by k n (Some v) is e = good.lists k n (is ∙ e)
+
+pub joined_next : (old now new : Tables) (map more mid next : Map) (keys : List ℕ) (i key : ℕ) → IsGood old more → slice_get keys i ≡ Some key
+    → IsMapOf old now mid (IsJoinedFirst old map more keys i) → IsMapOf now new next (λ k m. Contains (listed now mid k) m ⊎ ((k ≡ key) × Contains (listed now more k) m))
+    → IsMapOf old new next (IsJoinedFirst old map more keys (i + 1))
+joined_next old now new map more mid next keys i key good at so_far step = record {
   good = step.good;
   keeps = keeps_both old now new so_far.keeps step.keeps;
   has = λ k m. (
     λ x. elim ((step.has k m).0 x) [
-      | inl y ↦ elim ((so_far.has k m).0 y) [ inl z ↦ inl z | inr z ↦ inr (z.0, z.1, (let lt = z.2 in omega (arith, lt)), z.3, z.4, z.5) ]
-      | inr y ↦ inr (i, e, (omega arith), at, y.0, subst (λ l. Contains l m) same y.1)
+      | inl y ↦ elim ((so_far.has k m).0 y) [ inl z ↦ inl z | inr z ↦ inr (z.0, (let lt = z.1 in omega (arith, lt)), z.2, z.3) ]
+      | inr y ↦ inr (i, (omega arith), at ∙ ap Some (sym y.0), subst (λ l. Contains l m) (so_far.keeps.same more good k) y.1)
     ],
     λ h. elim h [
       | inl x ↦ (step.has k m).1 (inl ((so_far.has k m).1 (inl x)))
-      | inr x ↦ elim (low_or_last x.0 i x.2) [
-        | inl lt ↦ (step.has k m).1 (inl ((so_far.has k m).1 (inr (x.0, x.1, lt, x.3, x.4, x.5))))
+      | inr x ↦ elim (low_or_last x.0 i x.1) [
+        | inl lt ↦ (step.has k m).1 (inl ((so_far.has k m).1 (inr (x.0, lt, x.2, x.3))))
         | inr last ↦
-            let is : x.1 ≡ e = let both : Some x.1 ≡ Some e = sym x.3 ∙ ap (slice_get entries) last ∙ at in cc both in
-            (step.has k m).1 (inr (x.4 ∙ ap (λ (y : ℕ × ℕ). y.0) is, subst (λ l. Contains l m) (sym same) (subst (λ (y : ℕ × ℕ). Contains (list_at old.lists (Some y.1)) m) is x.5)))
+            let is : k ≡ key = let both : Some k ≡ Some key = sym x.2 ∙ ap (slice_get keys) last ∙ at in cc both in
+            (step.has k m).1 (inr (is, subst (λ l. Contains l m) (sym (so_far.keeps.same more good k)) x.3))
       ]
     ],
   );
 }
-  where
-    same : list_at now.lists (Some e.1) ≡ list_at old.lists (Some e.1)
-    same = grown_at old.lists now.lists so_far.keeps.grows (Some e.1) (λ n is. let one : e.1 ≡ n = cc is in subst (IsList old.lists) one list)
 
-pub joined_all : (old new : Tables) (map more next : Map) (entries : List (ℕ × ℕ)) (i : ℕ) → AreEntries (value_in old.maps more) entries → length entries ≤ i
-    → IsMapOf old new next (IsJoinedFirst old map more entries i) → IsMapOf old new next (λ k m. Contains (listed old map k) m ⊎ Contains (listed old more k) m)
-joined_all old new map more next entries i are full = map_says old new next _ _ (λ k m. (
-  λ h. elim h [
-    | inl x ↦ inl x
-    | inr x ↦
-        let is = (are.each x.1.0 x.1.1).0 (at_contains entries x.0 x.1 x.3) in
-        let at : listed old more k ≡ list_at old.lists (Some x.1.1) = ap (λ q. list_at old.lists (value_in old.maps more q)) x.4 ∙ ap (list_at old.lists) is in
-        inr (subst (λ l. Contains l m) (sym at) x.5)
-  ],
-  λ h. elim h [ inl x ↦ inl x | inr x ↦ there k m (value_in old.maps more k) refl x ],
-))
+pub joined_all : (old new : Tables) (map more next : Map) (keys : List ℕ) (i : ℕ) → AreDiffering (value_in old.maps map) (value_in old.maps more) keys → length keys ≤ i
+    → IsMapOf old new next (IsJoinedFirst old map more keys i) → IsMapOf old new next (λ k m. Contains (listed old map k) m ⊎ Contains (listed old more k) m)
+joined_all old new map more next keys i are full =
+    map_says old new next _ _
+    (λ k m. (λ h. elim h [ inl x ↦ one k m (value_in old.maps map k) refl x | inr x ↦ inr x.3 ], λ h. first k m (value_in old.maps map k) (value_in old.maps more k) refl refl h))
   where
-    there : (k m : ℕ) (o : Option ℕ) → value_in old.maps more k ≡ o → Contains (listed old more k) m → IsJoinedFirst old map more entries i k m
-    there k m None e x = let h : Contains [] m = subst (λ o. Contains (list_at old.lists o) m) e x in absurd (omega (arith, h.1))
-    there k m (Some v) e x =
-        let entry = contains_at entries (k, v) ((are.each k v).1 e) in
-        let lt = slice_get_within entries entry.0 (k, v) entry.1 in
-        inr (entry.0, (k, v), (omega (arith, lt, full)), entry.1, refl, subst (λ o. Contains (list_at old.lists o) m) e x)
+    one : (k m : ℕ) (o : Option ℕ) → value_in old.maps map k ≡ o → Contains (list_at old.lists (option_or o (value_in old.maps more k))) m
+        → Contains (listed old map k) m ⊎ Contains (listed old more k) m
+    one k m None is x = inr x
+    one k m (Some v) is x = inl (subst (λ o. Contains (list_at old.lists o) m) (sym is) x)
+
+    -- where the first map has a value, that is the union's
+    mine : (k v : ℕ) → value_in old.maps map k ≡ Some v → option_or (value_in old.maps map k) (value_in old.maps more k) ≡ Some v
+    mine k v is = ap (λ o. option_or o (value_in old.maps more k)) is
+
+    first : (k m : ℕ) (a b : Option ℕ) → value_in old.maps map k ≡ a → value_in old.maps more k ≡ b → Contains (list_at old.lists a) m ⊎ Contains (list_at old.lists b) m
+        → IsJoinedFirst old map more keys i k m
+    first k m None b is also (inl x) = absurd (omega (arith, x.1))
+    first k m None b is also (inr x) = inl (subst (λ o. Contains (list_at old.lists o) m) (sym (ap (λ o. option_or o (value_in old.maps more k)) is ∙ also)) x)
+    first k m (Some v) b is also (inl x) = inl (subst (λ o. Contains (list_at old.lists o) m) (sym (mine k v is)) x)
+    first k m (Some v) None is also (inr x) = absurd (omega (arith, x.1))
+    first k m (Some v) (Some w) is also (inr x) = elim (cases_eq v w) [
+      | inl same ↦ inl (subst (λ o. Contains (list_at old.lists o) m) (sym (mine k v is ∙ ap Some same)) x)
+      | inr other ↦
+          let at = contains_at keys k ((are.each k).1 (v, w, is, also, other)) in
+          let lt = slice_get_within keys at.0 k at.1 in
+          inr (at.0, (omega (arith, lt, full)), at.1, subst (λ o. Contains (list_at old.lists o) m) (sym also) x)
+    ]
 
 -- ---- all that a map lists
 

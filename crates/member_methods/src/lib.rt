@@ -38,7 +38,7 @@ pub struct MethodLists {
 impl MethodLists {
     /// The member methods of all types of a sound world.
     ///
-    /// Takes time for the types, their methods with the parts of their parameter types, and what each type has from others than the first one directly above it, with what the first one has of the same names and numbers of parameters, as often as the number of the types directly above can be halved; all times the bits of a method's number. Where a type declares methods of a name and number of parameters, each that it has of them from above takes the time of finding the arguments of the type that declares it, and of its parameter types.
+    /// Takes time for the types, their methods with the parts of their parameter types, and what the types directly above each do not share: the names and numbers of parameters that one has from elsewhere than the others, and the lists that differ, as often as the number of those types can be halved; all times the bits of a method's number. Where a type declares methods of a name and number of parameters, each that it has of them from above takes the time of finding the arguments of the type that declares it, and of its parameter types.
     pub fn of(alloc: Global, w: &World) -> Result<MethodLists, NoMemory>
         requires { IsSound w.now }
         ensures { IfOk result (λ t. HoldsMethods w.now t) }

@@ -109,7 +109,7 @@ impl Made {
 
 /// What some of the types directly above a type hand down to it, together.
 ///
-/// They are halved, so that a list is joined to others as often as their number can be halved. The first type's map, often by far the largest, is only added to.
+/// They are halved, so that what one of them alone has, and each list, is looked at as often as their number can be halved.
 fn inherited(
     alloc: Global,
     tables: &mut Tables,

@@ -2,7 +2,6 @@
 
 ghost use Rattle.std.specs.Prelude.{◌↔◌, ◌≡◌, ◌<◌, ◌⊎◌, ℕ, [], Some, IfOk};
 ghost use Rattle.std.specs.List.{Contains};
-ghost use Rattle.member_methods.specs.Lists.{IsList, list_at};
 ghost use Rattle.member_methods.specs.Tables.{IsGood, IsMapOf};
 ghost use Rattle.member_methods.specs.Tables as spec;
 
@@ -68,36 +67,36 @@ impl Tables {
         self.maps.put(map, key, Some(list))
     }
 
-    /// The map with, for each key, what both maps list. Takes time for the keys of `more` and for the lists that differ.
+    /// The map with, for each key, what both maps list. Takes time for the nodes that the two maps do not share and for the lists that differ.
     pub(crate) fn joined(&mut self, alloc: Global, map: Map, more: Map) -> Result<Map, NoMemory>
         requires { IsGood self.old map × IsGood self.old more }
         ensures { IfOk result (λ r. IsMapOf self.old self.new r (λ k m. Contains (spec.listed self.old map k) m ⊎ Contains (spec.listed self.old more k) m)) }
     {
-        let mut map = map;
-        let entries = self.maps.entries(alloc, more)?;
-        for (key, list) in entries.as_slice() {
-            map = self.joined_at(alloc, map, *key, *list)?;
+        let keys = self.maps.differing(alloc, map, more)?;
+        // What one map alone has is there with this, and so is what both have as the same list.
+        let mut both = self.maps.union(map, more)?;
+        for key in keys.as_slice() {
+            both = self.joined_at(alloc, both, more, *key)?;
         }
-        Ok(map)
+        Ok(both)
     }
 
-    /// The map with, for one key, also the numbers of a list.
-    fn joined_at(&mut self, alloc: Global, map: Map, key: u32, list: u32) -> Result<Map, NoMemory>
-        requires good { IsGood self.old map }
-        requires key { key < self.old.maps.keys }
-        requires list { IsList self.old.lists list }
-        ensures { IfOk result (λ r. IsMapOf self.old self.new r (λ k m. Contains (spec.listed self.old map k) m ⊎ ((k ≡ key) × Contains (list_at self.old.lists (Some list)) m))) }
+    /// The map with, for one key, also what another map lists.
+    fn joined_at(&mut self, alloc: Global, map: Map, more: Map, key: u32) -> Result<Map, NoMemory>
+        requires { IsGood self.old map × IsGood self.old more }
+        ensures { IfOk result (λ r. IsMapOf self.old self.new r (λ k m. Contains (spec.listed self.old map k) m ⊎ ((k ≡ key) × Contains (spec.listed self.old more k) m))) }
     {
-        match self.maps.get(map, key) {
-            None => self.maps.put(map, key, Some(list)),
-            Some(here) => {
-                let both = self.lists.joined(alloc, here, list)?;
-                if both == here {
-                    Ok(map)
-                } else {
-                    self.maps.put(map, key, Some(both))
-                }
-            }
+        let Some(list) = self.maps.get(more, key) else {
+            return Ok(map);
+        };
+        let Some(here) = self.maps.get(map, key) else {
+            return self.maps.put(map, key, Some(list));
+        };
+        let both = self.lists.joined(alloc, here, list)?;
+        if both == here {
+            Ok(map)
+        } else {
+            self.maps.put(map, key, Some(both))
         }
     }
 }

@@ -3,3 +3,5 @@ pub mod Walks
 pub mod Listed
 pub mod Views
 pub mod Kept
+pub mod Unions
+pub mod Differing

@@ -108,7 +108,7 @@ is_listed nodes keys (suc levels) root from k v h =
           }))
     ]
 
-pairs_append : {X : Type 0} (R : X → X → Type 0) (xs ys : List X) → AllPairs R xs → AllPairs R ys → ((x y : X) → Contains xs x → Contains ys y → R x y) → AllPairs R (xs ++ ys)
+pub pairs_append : {X : Type 0} (R : X → X → Type 0) (xs ys : List X) → AllPairs R xs → AllPairs R ys → ((x y : X) → Contains xs x → Contains ys y → R x y) → AllPairs R (xs ++ ys)
 pairs_append R xs ys left right across i j d lt within = by (cases_lt i (length xs)) (cases_lt j (length xs))
   where
     n : ℕ

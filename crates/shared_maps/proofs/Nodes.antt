@@ -1,11 +1,11 @@
 -- A list of nodes that gets one more.
-use Rattle.std.proofs.Common.{◌≡◌, ℕ, zero, suc, ◌<◌, ◌≤◌, List, [], ◌∷◌, ◌++◌, Option, Some, None, ◌⊎◌, inl, inr, refl, ap, ◌∙◌, subst, length, arith}
+use Rattle.std.proofs.Common.{◌≡◌, ℕ, zero, suc, ◌<◌, ◌≤◌, List, [], ◌∷◌, ◌++◌, Option, Some, None, ◌⊎◌, inl, inr, refl, ap, ◌∙◌, sym, subst, length, arith}
 use Rattle.std.specs.Prelude.{slice_get}
 use Rattle.std.proofs.lemmas.List.{length_push}
 use Rattle.std.proofs.lemmas.Option.{slice_get_within, slice_get_past}
 use Rattle.shared_maps.specs.declared.trees.Node.{Node}
 use Rattle.shared_maps.specs.declared.trees.Node.TheVariants as node
-use Rattle.shared_maps.specs.Trees.{AreInside, Grows, IsArena, high_of, low_of, value_of}
+use Rattle.shared_maps.specs.Trees.{AreInside, Grows, HasHalves, IsArena, high_of, low_of, value_of}
 
 at_front : {A : Type 0} (xs ys : List A) (i : ℕ) → i < length xs → slice_get (xs ++ ys) i ≡ slice_get xs i
 at_front [] ys i lt = absurd (omega (arith, lt))
@@ -66,6 +66,11 @@ halves_inside nodes h root = by (slice_get nodes root) refl
     by (Some node.Nothing) is = (first, first)
     by (Some (node.Value v)) is = (first, first)
     by (Some (node.Fork low high)) is = h.inside root (node.Fork low high) is
+
+pub has_inside : (nodes : List Node) → IsArena nodes → (root low high : ℕ) → HasHalves nodes root low high → (low < length nodes) × (high < length nodes)
+has_inside nodes h root low high has =
+    let inside = halves_inside nodes h root in
+    (subst (λ n. n < length nodes) (sym has.low) inside.0, subst (λ n. n < length nodes) (sym has.high) inside.1)
 
 -- a number of the tree with no keys, or of no node
 pub record IsBare (nodes : List Node) (root : ℕ) : Type 0 where

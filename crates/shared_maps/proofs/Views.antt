@@ -1,13 +1,16 @@
 -- The values that the maps of a memory have.
-use Rattle.std.proofs.Common.{◌≡◌, ℕ, ◌-◌, ◌^◌, ◌<◌, ◌≤◌, Bool, true, false, cond, Option, Some, None, inl, inr, refl, sym, ap, ◌∙◌, arith}
+use Rattle.std.proofs.Common.{◌≡◌, ℕ, ◌-◌, ◌^◌, ◌<◌, ◌≤◌, Bool, true, false, cond, List, [], Option, Some, None, inl, inr, refl, sym, ap, ◌∙◌, subst, arith}
 use Rattle.std.specs.Prelude.{◌==◌, nat_lt, if◌then◌else◌}
+use Rattle.std.specs.Option.{option_or}
 use Rattle.std.proofs.lemmas.Bool.{cases_lt, lt-ltb, le-ltb, ltb-true, ne_eqb, cond-true, cond-false}
 use Rattle.shared_maps.specs.declared.Map.{Map}
-use Rattle.shared_maps.specs.Trees.{Grows, IsArena, Memory, entries_at, value_at}
-use Rattle.shared_maps.specs.Maps.{AreEntries, KeepsMaps, value_in}
+use Rattle.shared_maps.specs.Trees.{Adds, DiffersIn, Grows, IsArena, Memory, entries_at, value_at}
+use Rattle.shared_maps.specs.Maps.{AreDiffering, AreEntries, KeepsMaps, value_in}
 use Rattle.shared_maps.proofs.Nodes.{IsBare}
 use Rattle.shared_maps.proofs.Walks.{IsWith, value_bare, value_kept}
 use Rattle.shared_maps.proofs.Listed.{is_listed, listed_ascend, listed_is}
+use Rattle.shared_maps.proofs.Unions.{IsUnion}
+use Rattle.shared_maps.proofs.Differing.{differ_same}
 
 pub value_inside : (m : Memory) (map : Map) (key : ℕ) → key < m.keys → value_in m map key ≡ value_at m.nodes m.height map.number key
 unfolding value_in
@@ -76,3 +79,40 @@ are_entries m map enough = record {
   );
   ascending = listed_ascend m.nodes m.keys m.height map.number 0;
 }
+
+-- l and r are the trees of left and of right
+pub union_in : (old new : Memory) (left right both : Map) (l r : ℕ) → new.keys ≡ old.keys → new.height ≡ old.height → old.keys ≤ 2 ^ old.height
+    → ((k : ℕ) → value_at old.nodes old.height l k ≡ value_at old.nodes old.height left.number k) → ((k : ℕ) → value_at old.nodes old.height r k ≡ value_at old.nodes old.height right.number k)
+    → IsUnion old.nodes l r new.nodes old.height both.number → (k : ℕ) → value_in new both k ≡ option_or (value_in old left k) (value_in old right k)
+union_in old new left right both l r keys height enough is_left is_right is k = elim (cases_lt k old.keys) [
+  | inl lt ↦
+      value_inside new both k (omega (arith, lt, keys)) ∙ ap (λ n. value_at new.nodes n both.number k) height ∙ is.each k (omega (arith, lt, enough))
+      ∙ ap (λ o. option_or o (value_at old.nodes old.height r k)) (is_left k ∙ sym (value_inside old left k lt))
+      ∙ ap (λ o. option_or (value_in old left k) o) (is_right k ∙ sym (value_inside old right k lt))
+  | inr past ↦
+      value_outside new both k (omega (arith, past, keys)) ∙ sym (value_outside old right k past)
+      ∙ ap (λ o. option_or o (value_in old right k)) (sym (value_outside old left k past))
+]
+
+pub are_differing : (m : Memory) (left right : Map) (keys : List ℕ) → m.keys ≤ 2 ^ m.height → Adds [] keys (DiffersIn m.nodes m.keys m.height left.number right.number 0)
+    → AreDiffering (value_in m left) (value_in m right) keys
+are_differing m left right keys enough h = subst (AreDiffering (value_in m left) (value_in m right)) (sym h.added) (record {
+  each = λ k.
+      let e : k - 0 ≡ k = omega arith in (
+        λ has.
+            let is = (h.each k).0 has in
+            differ_same (value_at m.nodes m.height left.number (k - 0)) (value_in m left k) (value_at m.nodes m.height right.number (k - 0)) (value_in m right k)
+            (ap (value_at m.nodes m.height left.number) e ∙ sym (value_inside m left k is.small)) (ap (value_at m.nodes m.height right.number) e ∙ sym (value_inside m right k is.small)) is.values,
+        λ is.
+            let small = value_within m left k is.0 is.2 in
+            (h.each k).1 (record {
+              low = omega arith;
+              high = omega (arith, small, enough);
+              small = small;
+              values =
+                  differ_same (value_in m left k) (value_at m.nodes m.height left.number (k - 0)) (value_in m right k) (value_at m.nodes m.height right.number (k - 0))
+                  (value_inside m left k small ∙ ap (value_at m.nodes m.height left.number) (sym e)) (value_inside m right k small ∙ ap (value_at m.nodes m.height right.number) (sym e)) is;
+            }),
+      );
+  ascending = h.ascending;
+})

@@ -4,7 +4,7 @@ use Rattle.std.specs.Prelude.{slice_get, ◌==◌, nat_lt, if◌then◌else◌}
 use Rattle.std.proofs.Math.Nat.{two-pow-succ}
 use Rattle.std.proofs.lemmas.Bool.{cases_lt, cases_eq, lt-ltb, le-ltb, eq-eqb, ne_eqb, cond-true, cond-false}
 use Rattle.shared_maps.specs.declared.trees.Node.{Node}
-use Rattle.shared_maps.specs.Trees.{Grows, IsArena, high_of, low_of, value_at, value_of}
+use Rattle.shared_maps.specs.Trees.{Grows, HasHalves, IsArena, high_of, low_of, value_at, value_of}
 use Rattle.shared_maps.proofs.Nodes.{IsBare, bare_first, grows_both, halves_inside}
 
 -- twice as many keys with one more level
@@ -22,6 +22,15 @@ pub value_above : (nodes : List Node) (levels less root key : ℕ) → levels �
 value_above nodes levels less root key e le =
     ap (λ n. value_at nodes n root key) e
     ∙ cond-false (nat_lt key (2 ^ less)) (value_at nodes less (low_of (slice_get nodes root)) key) (value_at nodes less (high_of (slice_get nodes root)) (key - 2 ^ less)) (le-ltb key (2 ^ less) le)
+
+-- by halves that are known
+pub value_low : (nodes : List Node) (levels less root low high key : ℕ) → levels ≡ suc less → HasHalves nodes root low high → key < 2 ^ less
+    → value_at nodes levels root key ≡ value_at nodes less low key
+value_low nodes levels less root low high key e has lt = value_below nodes levels less root key e lt ∙ ap (λ n. value_at nodes less n key) (sym has.low)
+
+pub value_high : (nodes : List Node) (levels less root low high key : ℕ) → levels ≡ suc less → HasHalves nodes root low high → 2 ^ less ≤ key
+    → value_at nodes levels root key ≡ value_at nodes less high (key - 2 ^ less)
+value_high nodes levels less root low high key e has le = value_above nodes levels less root key e le ∙ ap (λ n. value_at nodes less n (key - 2 ^ less)) (sym has.high)
 
 pub value_kept : (old new : List Node) → IsArena old → Grows old new → (levels root key : ℕ) → root < length old → value_at new levels root key ≡ value_at old levels root key
 value_kept old new arena grows zero root key lt = ap value_of (grows.kept root lt)

@@ -1,7 +1,7 @@
 -- What the maps of a memory are, and what stays as it is.
 use Rattle.std.specs.Prelude.{◌≡◌, ℕ, ◌<◌, ◌↔◌, if◌then◌else◌, nat_lt, List, Option, Some, None, length, Contains, AllPairs}
 use Rattle.shared_maps.specs.declared.Map.{Map}
-use Rattle.shared_maps.specs.Trees.{Memory, value_at}
+use Rattle.shared_maps.specs.Trees.{Differ, Memory, value_at}
 
 -- the number is one of a map of the memory
 pub record IsMap (m : Memory) (map : Map) : Type 0 where
@@ -21,3 +21,8 @@ pub record KeepsMaps (old new : Memory) : Type 0 where
 pub record AreEntries (value : ℕ → Option ℕ) (entries : List (ℕ × ℕ)) : Type 0 where
   pub each : (k v : ℕ) → Contains entries (k, v) ↔ (value k ≡ Some v)
   pub ascending : AllPairs (λ a b. a.0 < b.0) entries
+
+-- the keys that have a value on both sides, and not the same one, in ascending order
+pub record AreDiffering (left right : ℕ → Option ℕ) (keys : List ℕ) : Type 0 where
+  pub each : (k : ℕ) → Contains keys k ↔ Differ (left k) (right k)
+  pub ascending : AllPairs (λ a b. a < b) keys

@@ -1,5 +1,5 @@
 -- Binary trees that share nodes in one list. A node's number is its place, and a tree is known by its top node. A tree of so many levels has the keys below 2 to that number.
-use Rattle.std.specs.Prelude.{◌≡◌, ℕ, zero, suc, ◌+◌, ◌-◌, ◌^◌, ◌<◌, ◌≤◌, if◌then◌else◌, nat_lt, List, [], ◌∷◌, ◌++◌, Option, Some, None, slice_get, length}
+use Rattle.std.specs.Prelude.{◌≡◌, ℕ, zero, suc, ◌+◌, ◌-◌, ◌^◌, ◌<◌, ◌≤◌, if◌then◌else◌, nat_lt, List, [], ◌∷◌, ◌++◌, Option, Some, None, ◌↔◌, slice_get, length, Contains, AllPairs}
 use Rattle.shared_maps.specs.declared.trees.Node.{Node}
 use Rattle.shared_maps.specs.declared.trees.Node.TheVariants as node
 
@@ -46,6 +46,24 @@ entries_at nodes keys zero root from = if nat_lt from keys then entry_of from (v
 entries_at nodes keys (suc levels) root from =
     entries_at nodes keys levels (low_of (slice_get nodes root)) from
     ++ entries_at nodes keys levels (high_of (slice_get nodes root)) (from + 2 ^ levels)
+
+-- two values, and not the same one
+abbrev pub Differ : Option ℕ → Option ℕ → Type 0
+Differ left right = (x : ℕ) × (y : ℕ) × (left ≡ Some x) × (right ≡ Some y) × (x ≡ y → ⊥)
+
+-- a key below a limit that two trees have different values for; the trees' first key is `from`
+pub record DiffersIn (nodes : List Node) (keys levels left right from k : ℕ) : Type 0 where
+  pub low : from ≤ k
+  pub high : k < from + 2 ^ levels
+  pub small : k < keys
+  pub values : Differ (value_at nodes levels left (k - from)) (value_at nodes levels right (k - from))
+
+-- behind the old keys, in ascending order, those that P holds of
+pub record Adds (old new : List ℕ) (P : ℕ → Type 0) : Type 0 where
+  pub more : List ℕ
+  pub added : new ≡ old ++ more
+  pub each : (k : ℕ) → Contains more k ↔ P k
+  pub ascending : AllPairs (λ a b. a < b) more
 
 -- a node whose halves have numbers below a limit
 abbrev pub AreInside : ℕ → Node → Type 0

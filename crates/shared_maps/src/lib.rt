@@ -2,14 +2,15 @@
 #![tactic(auto)]
 
 ghost use Rattle.std.specs.Prelude.{◌≡◌, ◌==◌, ℕ, ◌<◌, None, if◌then◌else◌, IfOk};
-ghost use Rattle.shared_maps.specs.Maps.{AreEntries, IsMap, KeepsMaps, value_in};
+ghost use Rattle.std.specs.Option.{option_or};
+ghost use Rattle.shared_maps.specs.Maps.{AreDiffering, AreEntries, IsMap, KeepsMaps, value_in};
 
 mod trees;
 
 use java_tree::{Items, NoMemory};
 use std::alloc::Global;
 use std::marker::Model;
-use trees::{Node, add_entries, found, height_for, with_value};
+use trees::{Node, add_differing, add_entries, found, height_for, known, united, with_value};
 
 /// The number of a map. It means something in the memory alone that gave it.
 #[derive(Clone, Copy, Debug, PartialEq, Eq)]
@@ -102,5 +103,38 @@ impl SharedMaps {
             &mut entries,
         )?;
         Ok(entries)
+    }
+
+    /// The map that has what `left` has, and what `right` has at keys at which `left` has nothing. A number of no map of this memory counts as the empty map.
+    ///
+    /// Takes time for the nodes in which the two trees differ: it looks no further where both have the same node, or one has no keys. Adds a node at most for each fork of both that it looks at, and none where the halves come out as those of one of the two. `NoMemory` also where the memory would have more than 2^32 nodes.
+    pub fn union(&mut self, left: Map, right: Map) -> Result<Map, NoMemory>
+        ensures map { IfOk result (IsMap self.new) }
+        ensures value { IfOk result (λ r. (k : ℕ) → value_in self.new r k ≡ option_or (value_in self.old left k) (value_in self.old right k)) }
+        ensures kept { KeepsMaps self.old self.new }
+    {
+        let first = known(self.nodes.as_slice(), left.number);
+        let second = known(self.nodes.as_slice(), right.number);
+        let both = united(&mut self.nodes, self.height, first, second)?;
+        Ok(Map { number: both })
+    }
+
+    /// The keys that have a value in both maps, and not the same one, ascending. A number of no map of this memory counts as the empty map.
+    ///
+    /// Takes time for the nodes in which the two trees differ, as `union` does, and memory for the keys alone.
+    pub fn differing(&self, alloc: Global, left: Map, right: Map) -> Result<Vec<u32>, NoMemory>
+        ensures { IfOk result (λ v. AreDiffering (value_in self.now left) (value_in self.now right) v.items) }
+    {
+        let mut different = Vec::new(alloc);
+        add_differing(
+            self.nodes.as_slice(),
+            self.keys,
+            self.height,
+            left.number,
+            right.number,
+            0,
+            &mut different,
+        )?;
+        Ok(different)
     }
 }

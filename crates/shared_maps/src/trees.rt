@@ -1,7 +1,8 @@
 //! Binary trees that share nodes in one list.
 
-ghost use Rattle.std.specs.Prelude.{◌≡◌, ◌==◌, ℕ, ◌+◌, ◌-◌, ◌^◌, ◌<◌, ◌≤◌, ◌++◌, Some, if◌then◌else◌, length, slice_get, IfOk, OnOk};
-ghost use Rattle.shared_maps.specs.Trees.{AreInside, Grows, HasHalves, IsArena, entries_at, value_at, value_of};
+ghost use Rattle.std.specs.Prelude.{◌≡◌, ◌==◌, ℕ, ◌+◌, ◌-◌, ◌^◌, ◌<◌, ◌≤◌, ◌++◌, ◌↔◌, Some, IsTrue, if◌then◌else◌, length, slice_get, IfOk, OnOk};
+ghost use Rattle.std.specs.Option.{option_or};
+ghost use Rattle.shared_maps.specs.Trees.{Adds, AreInside, Differ, DiffersIn, Grows, HasHalves, IsArena, entries_at, value_at, value_of};
 
 use java_tree::{Items, NoMemory};
 use std::alloc::Global;
@@ -165,4 +166,146 @@ pub(crate) fn add_entries(
     let (low, high) = halves(nodes, root);
     add_entries(nodes, keys, levels - 1, low, from, entries)?;
     add_entries(nodes, keys, levels - 1, high, from + half, entries)
+}
+
+/// The tree with a number; the one with no keys, for a number of no tree.
+pub(crate) fn known(nodes: &[Node], root: u32) -> u32
+    requires { IsArena nodes.now }
+    ensures within { result < length nodes.now }
+    ensures value { (levels : ℕ) → (k : ℕ) → value_at nodes.now levels result k ≡ value_at nodes.now levels root k }
+{
+    if (root as usize) < nodes.len() {
+        root
+    } else {
+        0
+    }
+}
+
+fn has_halves(nodes: &[Node], root: u32, low: u32, high: u32) -> bool
+    ensures { IsTrue result ↔ HasHalves nodes.now root low high }
+{
+    let (own_low, own_high) = halves(nodes, root);
+    low == own_low && high == own_high
+}
+
+/// The tree of two halves: one of two trees, where it has these halves itself.
+fn joined_or_own(
+    nodes: &mut Items<Node>,
+    left: u32,
+    right: u32,
+    low: u32,
+    high: u32,
+) -> Result<u32, NoMemory>
+    requires arena { IsArena nodes.old }
+    requires left { left < length nodes.old }
+    requires right { right < length nodes.old }
+    requires low { low < length nodes.old }
+    requires high { high < length nodes.old }
+    ensures arena { IsArena nodes.new }
+    ensures grows { Grows nodes.old nodes.new }
+    ensures within { IfOk result (λ n. n < length nodes.new) }
+    ensures halves { IfOk result (λ n. HasHalves nodes.new n low high) }
+{
+    if has_halves(nodes.as_slice(), left, low, high) {
+        return Ok(left);
+    }
+    if has_halves(nodes.as_slice(), right, low, high) {
+        return Ok(right);
+    }
+    joined(nodes, low, high)
+}
+
+/// The tree that has what `left` has, and what `right` has at keys at which `left` has nothing.
+pub(crate) fn united(
+    nodes: &mut Items<Node>,
+    levels: u32,
+    left: u32,
+    right: u32,
+) -> Result<u32, NoMemory>
+    requires arena { IsArena nodes.old }
+    requires levels { levels ≤ 32 }
+    requires left { left < length nodes.old }
+    requires right { right < length nodes.old }
+    ensures arena { IsArena nodes.new }
+    ensures grows { Grows nodes.old nodes.new }
+    ensures within { IfOk result (λ n. n < length nodes.new) }
+    ensures value { IfOk result (λ n. (k : ℕ) → k < 2 ^ levels → value_at nodes.new levels n k ≡ option_or (value_at nodes.old levels left k) (value_at nodes.old levels right k)) }
+{
+    if left == right || right == 0 {
+        return Ok(left);
+    }
+    if left == 0 {
+        return Ok(right);
+    }
+    if levels == 0 {
+        return match own_value(nodes.as_slice(), left) {
+            Some(_) => Ok(left),
+            None => Ok(right),
+        };
+    }
+    let (left_low, left_high) = halves(nodes.as_slice(), left);
+    let (right_low, right_high) = halves(nodes.as_slice(), right);
+    let low = united(nodes, levels - 1, left_low, right_low)?;
+    let high = united(nodes, levels - 1, left_high, right_high)?;
+    joined_or_own(nodes, left, right, low, high)
+}
+
+/// Whether two trees of no levels have a value each, and not the same one.
+fn differ(nodes: &[Node], left: u32, right: u32) -> bool
+    ensures { IsTrue result ↔ Differ (value_of (slice_get nodes.now left)) (value_of (slice_get nodes.now right)) }
+{
+    let Some(x) = own_value(nodes, left) else {
+        return false;
+    };
+    match own_value(nodes, right) {
+        Some(y) => x != y,
+        None => false,
+    }
+}
+
+/// Adds the keys below the limit that two trees, whose first key is `from`, have different values for.
+pub(crate) fn add_differing(
+    nodes: &[Node],
+    keys: u32,
+    levels: u32,
+    left: u32,
+    right: u32,
+    from: u32,
+    different: &mut Vec<u32>,
+) -> Result<(), NoMemory>
+    requires arena { IsArena nodes.now }
+    requires levels { levels ≤ 32 }
+    requires end { from + 2 ^ levels ≤ 2 ^ 32 }
+    ensures { OnOk result (Adds different.old.items different.new.items (DiffersIn nodes.now keys levels left right from)) }
+{
+    if left == right || left == 0 || right == 0 || from >= keys {
+        return Ok(());
+    }
+    if levels == 0 {
+        if differ(nodes, left, right) {
+            different.push(from)?;
+        }
+        return Ok(());
+    }
+    let half = half_of(levels);
+    let (left_low, left_high) = halves(nodes, left);
+    let (right_low, right_high) = halves(nodes, right);
+    add_differing(
+        nodes,
+        keys,
+        levels - 1,
+        left_low,
+        right_low,
+        from,
+        different,
+    )?;
+    add_differing(
+        nodes,
+        keys,
+        levels - 1,
+        left_high,
+        right_high,
+        from + half,
+        different,
+    )
 }

@@ -95,3 +95,61 @@ fn the_smallest_and_the_largest_limits(rt: HostRuntime) -> Result<(), Fail> {
     assert!(rt; lists(rt.alloc(), &all, both, &[(0, 4), (u32::MAX - 1, 3)])?);
     Ok(())
 }
+
+fn of_entries(maps: &mut SharedMaps, entries: &[(u32, u32)]) -> Result<Map, NoMemory> {
+    let mut map = maps.empty();
+    for (key, value) in entries {
+        map = maps.put(map, *key, Some(*value))?;
+    }
+    Ok(map)
+}
+
+/// Whether maps of these entries have this union, and these keys with different values.
+fn are_united(
+    alloc: Global,
+    left: &[(u32, u32)],
+    right: &[(u32, u32)],
+    union: &[(u32, u32)],
+    differing: &[u32],
+) -> Result<bool, NoMemory> {
+    let mut maps = SharedMaps::new(alloc, 1000)?;
+    let a = of_entries(&mut maps, left)?;
+    let b = of_entries(&mut maps, right)?;
+    let both = maps.union(a, b)?;
+    let different = maps.differing(alloc, a, b)?;
+    Ok(different.as_slice() == differing && lists(alloc, &maps, both, union)?)
+}
+
+#[test]
+fn two_maps_together(rt: HostRuntime) -> Result<(), Fail> {
+    let left = [(1, 10), (5, 50), (6, 60), (999, 7)];
+    let right = [(0, 3), (5, 51), (6, 60), (999, 8)];
+    assert!(rt;
+        are_united(
+            rt.alloc(),
+            &left,
+            &right,
+            &[(0, 3), (1, 10), (5, 50), (6, 60), (999, 7)],
+            &[5, 999]
+        )?
+    );
+    assert!(rt; are_united(rt.alloc(), &left, &left, &left, &[])?);
+    assert!(rt; are_united(rt.alloc(), &left, &[], &left, &[])?);
+    assert!(rt; are_united(rt.alloc(), &[], &right, &right, &[])?);
+    Ok(())
+}
+
+#[test]
+fn a_union_that_is_one_of_the_two_is_no_new_map(rt: HostRuntime) -> Result<(), Fail> {
+    let mut maps = SharedMaps::new(rt.alloc(), 1000)?;
+    let none = maps.empty();
+    let few = of_entries(&mut maps, &[(1, 10), (500, 50)])?;
+    let more = maps.put(few, 700, Some(70))?;
+    assert!(rt; maps.union(few, few)? == few);
+    assert!(rt; maps.union(none, few)? == few);
+    assert!(rt; maps.union(few, none)? == few);
+    assert!(rt; maps.union(few, more)? == more);
+    assert!(rt; maps.union(more, few)? == more);
+    assert!(rt; maps.differing(rt.alloc(), few, more)?.is_empty());
+    Ok(())
+}
