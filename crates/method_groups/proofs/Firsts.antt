@@ -58,7 +58,7 @@ if_some (Some x) P Q f h = f x h
 if_some None P Q f h = h
 
 pub some_told : {A : Type 0} (o : Option A) (P : A → Type 0) (x : A) → IfSome o P → o ≡ Some x → P x
-some_told o P x h is = subst (λ (q : Option A). IfSome q P) is h
+some_told {A = A} o P x h is = subst (λ (q : Option A). IfSome q P) is h
 
 -- one more at the end, above all before it
 pub push_ascends : (xs : List ℕ) (x : ℕ) → ((y : ℕ) → Contains xs y → y < x) → IsStrictlyIncreasing xs → IsStrictlyIncreasing (xs ++ x ∷ [])

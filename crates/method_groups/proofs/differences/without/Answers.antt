@@ -19,13 +19,13 @@ loop-m-preserved c =
     let m = get_or numbers i 0 in
     let at = slice_get-get_or numbers i 0 c.loop-m-test.true in
     let h = c.loop-m.invariant in
-    let from = c.place_from.ensures in
-    let next = c.place_from.result in
+    let from = c.place_from-at.ensures in
+    let next = c.place_from-at.result in
     let passed = next_passed numbers others i c.loop-m.at next m c.requires.methods at h.passed from.below in
     elim c.if-not-is_at.branch [
       | then-not-is_at+in_ok-push v ↦
           let missing = not_among numbers others i c.loop-m.at next m c.requires.methods at h.passed from.below c.requires.others from.stop (λ e. let never = c.is_at.ensures.1 e in absurd (cc (never, v.if-not-is_at.true))) in
-          rw v.left-is (record { left = left_pushed numbers others c.loop-m.left.items i m at h.left v.push.new.left.items v.in_ok-push.ensures.items missing; passed = passed })
+          rw v.left-is (record { left = left_pushed numbers others c.loop-m.left.items i m at h.left v.push.new.self.items v.in_ok-push.ensures.items missing; passed = passed })
       | else-not-is_at v ↦ rw v.left-is (record { left = left_dropped numbers others c.loop-m.left.items i m at h.left (at_contains others next m (c.is_at.ensures.0 v.if-not-is_at.false)); passed = passed })
     ]
 

@@ -4,8 +4,8 @@ use Rattle.std.proofs.lemmas.Option.{slice_get_within, slice_get_read}
 use Rattle.method_groups.specs.Labels.{IsAddition}
 use Rattle.method_groups.proofs.made.added_by.Goals as goal
 
-pub index-requires-in-Some : goal.index-requires-in-Some
-index-requires-in-Some c =
+pub index-requires : goal.index-requires
+index-requires c =
     let lists = c.args.labels.now.added.items in
     let its = c.requires.additions.each c.requires.row.0 c.in-Some.place c.args.row c.requires.row.1 c.in-Some.is in
     let lt = slice_get_within lists c.in-Some.place its.0 its.1 in

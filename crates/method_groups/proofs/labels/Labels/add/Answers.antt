@@ -18,7 +18,7 @@ add_one-requires-clause-within c =
 pub difference_from-requires-clause-members : goal.difference_from-requires-clause-members
 difference_from-requires-clause-members c =
     let w = c.args.w.now in
-    if_some c.mostly_last.result _ _ (λ y h. beside_first w y.member_of y.method h.0 (c.requires.labels.sound h.0 y h.1)) c.mostly_last.ensures
+    if_some c.mostly_last-before.result _ _ (λ y h. beside_first w y.member_of y.method h.0 (c.requires.labels.sound h.0 y h.1)) c.mostly_last-before.ensures
 
 pub loop-m-init : goal.loop-m-init
 loop-m-init c =

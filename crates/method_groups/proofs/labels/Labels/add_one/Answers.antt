@@ -1,4 +1,4 @@
-use Rattle.std.proofs.Common.{◌≡◌, Some, refl, sym, ap, subst, length}
+use Rattle.std.proofs.Common.{◌≡◌, Some, inl, inr, refl, sym, ap, subst, length}
 use Rattle.std.specs.Prelude.{slice_get, slice_set}
 use Rattle.std.proofs.lemmas.Option.{slice_get_read}
 use Rattle.method_groups.proofs.Additions.{adds_new}
@@ -24,5 +24,5 @@ returns-clause-only c n row at =
     let rest : slice_get labels c.args.m ≡ Some c.index-rest.result.now = slice_get_read labels (length labels) c.args.m c.index-rest.result.now refl c.requires.within c.index-rest.ensures in
     elim (c.in_ok-label.ensures.only n row at) [
       | inl was ↦ inl was
-      | inr new ↦ inr (adds_new old.rows.items labels c.args.m c.index-rest.result.now c.args.x c.args.fewer c.added_to.result row rest new c.added_to.ensures)
+      | inr new ↦ inr (adds_new old.rows.items labels c.args.m c.index-rest.result.now c.args.x c.args.fewer c.added_to-added.result row rest new c.added_to-added.ensures)
     ]
