@@ -8,7 +8,7 @@ use Rattle.method_groups.specs.declared.labels.Row.{Row}
 use Rattle.method_groups.specs.declared.overloads.Overloads.{Overloads}
 use Rattle.method_groups.specs.Beside.{AreBeside}
 use Rattle.method_groups.specs.Groups.{KeepsLists}
-use Rattle.method_groups.specs.Labels.{Adds, AreAdditions, IsAddition, IsDifference, IsOverload, KeepsRows, StandsFor}
+use Rattle.method_groups.specs.Labels.{Adds, AreAdditions, IsAddition, IsDifference, KeepsRows, StandsFor}
 use Rattle.method_groups.proofs.Firsts.{some_told}
 use Rattle.method_groups.proofs.Rows.{Labelled, stands_kept}
 

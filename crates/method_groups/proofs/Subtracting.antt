@@ -1,12 +1,12 @@
 -- Ascending numbers without those that are among others.
-use Rattle.std.proofs.Common.{◌≡◌, ℕ, ◌+◌, ◌<◌, ◌≤◌, List, [], ◌∷◌, ◌++◌, Some, ◌⊎◌, inl, inr, sym, ap, ◌∙◌, subst, length, get_or, arith}
+use Rattle.std.proofs.Common.{◌≡◌, ℕ, ◌+◌, ◌<◌, ◌≤◌, List, [], ◌∷◌, ◌++◌, Some, ◌⊎◌, inl, inr, sym, ap, ◌∙◌, subst, get_or, arith}
 use Rattle.std.specs.Prelude.{slice_get}
 use Rattle.std.specs.List.{Contains}
 use Rattle.std.specs.List.Sorted.{IsStrictlyIncreasing}
 use Rattle.std.proofs.lemmas.List.Elements.{Contains-append_left, Contains-push, Contains-push_cases}
 use Rattle.std.proofs.lemmas.List.Kept.{AllPairs-from_increasing}
 use Rattle.std.proofs.lemmas.Option.{slice_get_within, get_or_from_slice_get}
-use Rattle.method_groups.proofs.Firsts.{Among, among_last, among_more, among_cases, among_none, at_contains, contains_at, low_or_high, low_or_last, there_is}
+use Rattle.method_groups.proofs.Firsts.{Among, among_last, among_more, among_cases, among_none, contains_at, low_or_high, low_or_last, there_is}
 
 -- of ascending numbers a later one is greater
 later_greater : (xs : List ℕ) (i j x y : ℕ) → IsStrictlyIncreasing xs → slice_get xs i ≡ Some x → slice_get xs j ≡ Some y → i < j → x < y

@@ -66,7 +66,7 @@ impl Labels {
 
     /// Adds overloads, whose methods these are; unless all of them stand among the overloads that were added last to each of them. Takes time for the methods.
     ///
-    /// Where most of them had the same overloads added last, those get only the methods that these lack.
+    /// Where the same overloads were added last to most of them, the rows of those add only the methods that these overloads lack.
     pub(crate) fn add(
         &mut self,
         alloc: Global,
@@ -95,7 +95,7 @@ impl Labels {
         Ok(())
     }
 
-    /// The overloads that were added last to more than half of the methods, if there are such; else those of any method, or none.
+    /// The overloads that were added last to more than half of the methods, if there are such; else those of any of them, or none.
     fn mostly_last(&self, methods: &[u32]) -> Option<Overloads>
         ensures { IfSome result (λ x. (m : ℕ) × IsLabelled self.now m x) }
     {
@@ -156,7 +156,7 @@ impl Labels {
         Some(row.last)
     }
 
-    /// Adds overloads to one method: all of their methods, or the fewer that are enough where the overloads `before` were added last to it.
+    /// Adds overloads to one method: all of their methods, or the fewer of the difference where the overloads that it is from were added last.
     fn add_one(&mut self, m: u32, x: Overloads, fewer: Option<Difference>) -> Result<(), NoMemory>
         requires fit { IsFit self.old }
         requires within { m < length self.old.labels.items }

@@ -37,7 +37,7 @@ impl MethodGroups {
     ///
     /// Takes time and memory for the methods that the types have as members, each as often as there are types that have it. Beyond that, each different group takes time for its numbers, and for what is added for the overloads that its methods stand among and those of no smaller group do; these are sorted. So it is more than linear where methods of one type stand beside different others elsewhere: n such methods have n groups, each of n numbers or more.
     ///
-    /// For overloads, only those methods are added that do not stand among the ones before, where these are the same for most of the overloads' methods. So overloads of one name that differ in a few methods from type to type, as where each of n subclasses overrides one of n methods, take time for the numbers of the groups. Where they differ in most, or the methods of one type came from types that differ, all methods of the overloads are added: at worst n groups for n types of n overloads each take n * n * n steps.
+    /// What is added for overloads are all of their methods; or, for methods that stood among the same overloads before as most of the others, only those that these lack. So where each of n subclasses overrides one of n methods, the groups take time for their numbers, and for sorting them. n types of n overloads each, of which those that come one after the other differ in most, take n * n * n steps at worst.
     pub fn of(alloc: Global, w: &World, lists: &MethodLists) -> Result<MethodGroups, NoMemory>
         requires sound { IsSound w.now }
         requires lists { HoldsMethods w.now lists.now }

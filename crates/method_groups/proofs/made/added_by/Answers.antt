@@ -1,5 +1,4 @@
-use Rattle.std.proofs.Common.{◌≡◌, Some, inl, sym, ap, ◌∙◌, subst, length, refl, arith}
-use Rattle.std.specs.Prelude.{slice_get}
+use Rattle.std.proofs.Common.{◌≡◌, Some, inl, sym, ◌∙◌, subst, length, refl, arith}
 use Rattle.std.proofs.lemmas.Option.{slice_get_within, slice_get_read}
 use Rattle.method_groups.specs.Labels.{IsAddition}
 use Rattle.method_groups.proofs.made.added_by.Goals as goal
