@@ -17,7 +17,7 @@ use Rattle.method_groups.specs.declared.labels.Row.{Row}
 use Rattle.method_groups.specs.declared.labels.Labels.{Labels}
 use Rattle.method_groups.specs.declared.MethodGroups.{MethodGroups}
 use Rattle.method_groups.specs.Beside.{AreBeside}
-use Rattle.method_groups.specs.Labels.{StandsFor, last, rest, AreAllLabels, AreMembers, IsOverload, IsLabelled, Passes}
+use Rattle.method_groups.specs.Labels.{StandsFor, last, rest, AreAllLabels, AreMembers, IsAddition, IsOverload, IsLabelled, Passes}
 use Rattle.method_groups.specs.Constructors.{IsConstructor, shape_of}
 use Rattle.method_groups.specs.Groups.{HasList, KeepsLists, HoldsConstructors, HoldsGroups}
 use Rattle.method_groups.proofs.Firsts.{contains_at, low_or_last}
@@ -98,21 +98,24 @@ row_leads rows at row lt is x stands = rest lt is stands
 pub zero_leads : (listed : List Row) (at : ℕ) (x : Overloads) → StandsFor listed 0 x → StandsFor listed at x
 zero_leads listed at x stands = let never = stands_above listed 0 x stands in absurd (omega (arith, never))
 
--- the overloads of the label's own row
-pub row_passes : (w : World) (rows : List Row) (methods list : List ℕ) (at : ℕ) (row : Row) → 0 < at → slice_get rows at ≡ Some row → ((k : ℕ) → Contains list k ↔ AreBeside w row.last.member_of row.last.method k)
+-- what the label's own row adds
+pub row_passes : (w : World) (rows : List Row) (methods list : List ℕ) (at : ℕ) (row : Row) → 0 < at → slice_get rows at ≡ Some row → IsAddition w rows row.rest row.last list
     → Passes w rows methods at (methods ++ list) row.rest
-row_passes w rows methods list at row lt is listed k = (
+row_passes w rows methods list at row lt is adds k = (
   λ x. elim x [
     | inl has ↦ elim (Contains-append_cases methods list k has) [
       | inl old ↦ inl old
-      | inr new ↦ inr (row.last, last lt is refl, (listed k).0 new)
+      | inr new ↦ inr (row.last, last lt is refl, adds.only k new)
     ]
     | inr more ↦ inr (more.0, rest lt is more.1, more.2)
   ],
   λ x. elim x [
     | inl old ↦ inl (Contains-append_left methods list k old)
     | inr left ↦ elim (stands_cases rows at row left.0 is left.1) [
-      | inl here ↦ inl (Contains-append_right methods list k ((listed k).1 (subst (λ (y : Overloads). AreBeside w y.member_of y.method k) here left.2)))
+      | inl here ↦ elim (adds.all k (subst (λ (y : Overloads). AreBeside w y.member_of y.method k) here left.2)) [
+        | inl has ↦ inl (Contains-append_right methods list k has)
+        | inr more ↦ inr more
+      ]
       | inr more ↦ inr (left.0, more, left.2)
     ]
   ],

@@ -9,7 +9,7 @@ use Rattle.class_world.specs.Sequences.{IsSequence}
 use Rattle.method_groups.specs.declared.overloads.Overloads.{Overloads}
 use Rattle.method_groups.specs.declared.labels.Labels.{Labels}
 use Rattle.method_groups.specs.Beside.{AreBeside}
-use Rattle.method_groups.specs.Labels.{IsLabelled, AreJoined, IsFit, KeepsJoined, AreLabels, AreAllLabels, IsLimit, IsAgain}
+use Rattle.method_groups.specs.Labels.{IsLabelled, AreJoined, IsFit, KeepsJoined, AreAdditions, AreLabels, AreAllLabels, IsLimit, IsAgain}
 use Rattle.method_groups.proofs.Firsts.{Among, among_last, among_more, among_cases, at_contains, low_or_last}
 use Rattle.method_groups.proofs.Beside.{member_first, beside_within, beside_first, beside_turned, beside_both, alike_beside, holder_known}
 
@@ -71,10 +71,12 @@ passed_next w c t members i m at all here j among = elim (among_cases members i 
 pub list_within : (w : World) (c m : ℕ) (t : Labels) (list : List ℕ) → AreLabels w t → ((k : ℕ) → Contains list k ↔ AreBeside w c m k) → (k : ℕ) → Contains list k → k < length t.labels.items
 list_within w c m t list labels listed k h = let lt = beside_within w c m k ((listed k).0 h) in let size = labels.size in omega (arith, lt, size)
 
-pub labels_more : (w : World) (c m : ℕ) (old new : Labels) (list : List ℕ) → ((k : ℕ) → Contains list k ↔ AreBeside w c m k) → AreLabels w old → IsFit new → length new.labels.items ≡ length old.labels.items
-    → ((k : ℕ) (y : Overloads) → IsLabelled new k y → IsLabelled old k y ⊎ ((y ≡ record { member_of = c; method = m }) × Contains list k)) → AreLabels w new
-labels_more w c m old new list listed labels fit size only = record {
+pub labels_more : (w : World) (x : Overloads) (old new : Labels) (list : List ℕ) → ((k : ℕ) → Contains list k ↔ AreBeside w x.member_of x.method k) → AreLabels w old → IsFit new
+    → AreAdditions w new.rows.items new.added.items → length new.labels.items ≡ length old.labels.items
+    → ((k : ℕ) (y : Overloads) → IsLabelled new k y → IsLabelled old k y ⊎ ((y ≡ x) × Contains list k)) → AreLabels w new
+labels_more w x old new list listed labels fit additions size only = record {
   fit = fit;
+  additions = additions;
   size = size ∙ labels.size;
   sound = λ k y h. elim (only k y h) [
     | inl was ↦ labels.sound k y was

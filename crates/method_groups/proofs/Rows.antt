@@ -3,7 +3,7 @@ use Rattle.std.proofs.Common.{◌≡◌, ℕ, ◌+◌, ◌<◌, List, [], ◌∷
 use Rattle.std.specs.Prelude.{slice_get, slice_set}
 use Rattle.std.proofs.lemmas.List.{length_push}
 use Rattle.std.proofs.lemmas.Option.{slice_get_within}
-use Rattle.class_world.proofs.Ends.{at_last, at_first, first_or_end}
+use Rattle.class_world.proofs.Ends.{at_last, at_first, first_or_last, first_or_end}
 use Rattle.class_world.proofs.Words.{set_here, set_there, same_or_other}
 use Rattle.method_groups.specs.declared.overloads.Overloads.{Overloads}
 use Rattle.method_groups.specs.declared.labels.Row.{Row}
@@ -57,6 +57,9 @@ module _ (rows new : List Row) (row : Row) (made : new ≡ rows ++ row ∷ []) w
   pub push_last : slice_get new (length rows) ≡ Some row
   push_last = ap (λ l. slice_get l (length rows)) made ∙ at_last rows row
 
+  pub push_only : (n : ℕ) (r : Row) → slice_get new n ≡ Some r → (slice_get rows n ≡ Some r) ⊎ (r ≡ row)
+  push_only n r at = first_or_last rows row r n (sym (ap (λ l. slice_get l n) made) ∙ at)
+
   pub push_falls : Falls rows → row.rest < length rows → Falls new
   push_falls falls low n r at lt = elim (first_or_end rows row r n (sym (ap (λ l. slice_get l n) made) ∙ at)) [
     | inl old ↦ falls n r old lt
@@ -69,7 +72,7 @@ module _ (rows new : List Row) (row : Row) (made : new ≡ rows ++ row ∷ []) w
 -- ---- a method's label that is set
 
 module _ (rows new : List Row) (labels : List ℕ) (m old label : ℕ) (x : Overloads) (falls : Falls rows) (within : AreWithin labels rows) (kept : KeepsRows rows new)
-    (at : slice_get labels m ≡ Some old) (above : 0 < label) (row : slice_get new label ≡ Some (record { rest = old; last = x })) where
+    (at : slice_get labels m ≡ Some old) (above : 0 < label) (its : Row) (row : slice_get new label ≡ Some its) (rests : its.rest ≡ old) (lasts : its.last ≡ x) where
   there : (k : ℕ) → (m ≡ k → ⊥) → slice_get (slice_set labels m label) k ≡ slice_get labels k
   there k other = set_there labels m k label other
 
@@ -84,7 +87,7 @@ module _ (rows new : List Row) (labels : List ℕ) (m old label : ℕ) (x : Over
 
   pub set_within : AreWithin labels new → AreWithin (slice_set labels m label) new
   set_within fine k n is = elim (same_or_other m k) [
-    | inl same ↦ let e = is_here n k same is in let lt = slice_get_within new label _ row in omega (arith, e, lt)
+    | inl same ↦ let e = is_here n k same is in let lt = slice_get_within new label its row in omega (arith, e, lt)
     | inr other ↦ fine k n (sym (there k other) ∙ is)
   ]
 
@@ -93,16 +96,16 @@ module _ (rows new : List Row) (labels : List ℕ) (m old label : ℕ) (x : Over
     | inl same ↦ (
       λ h.
           let stands : StandsFor new label y = subst (λ n. StandsFor new n y) (is_here h.0 k same h.1) h.2 in
-          elim (stands_cases new label _ y row stands) [
-            | inl is ↦ inr (sym same, is)
-            | inr more ↦ inl (old, ap (slice_get labels) (sym same) ∙ at, stands_back rows new old y kept falls (within m old at) more)
+          elim (stands_cases new label its y row stands) [
+            | inl is ↦ inr (sym same, is ∙ lasts)
+            | inr more ↦ inl (old, ap (slice_get labels) (sym same) ∙ at, stands_back rows new old y kept falls (within m old at) (subst (λ n. StandsFor new n y) rests more))
           ],
       λ h. (
         label,
         ap (slice_get (slice_set labels m label)) (sym same) ∙ here,
         elim h [
-          | inl was ↦ rest above row (stands_kept rows new old y kept (subst (λ n. StandsFor rows n y) (was_here was.0 k same was.1) was.2))
-          | inr is ↦ last above row is.1
+          | inl was ↦ rest above row (subst (λ n. StandsFor new n y) (sym rests) (stands_kept rows new old y kept (subst (λ n. StandsFor rows n y) (was_here was.0 k same was.1) was.2)))
+          | inr is ↦ last above row (is.1 ∙ sym lasts)
         ],
       ),
     )

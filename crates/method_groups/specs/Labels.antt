@@ -5,6 +5,7 @@ use Rattle.class_world.specs.declared.world.World.{World}
 use Rattle.method_groups.specs.declared.overloads.Overloads.{Overloads}
 use Rattle.method_groups.specs.declared.labels.Row.{Row}
 use Rattle.method_groups.specs.declared.labels.Labels.{Labels}
+use Rattle.method_groups.specs.declared.differences.Difference.{Difference}
 use Rattle.method_groups.specs.Beside.{AreBeside, AreAlike}
 
 -- the label n stands for these overloads, among others: its row has them, or the row of a label that it leads to
@@ -32,9 +33,35 @@ KeepsRows old new = (n : ℕ) (row : Row) → slice_get old n ≡ Some row → s
 abbrev pub KeepsJoined : Labels → Labels → Type 0
 KeepsJoined old new = (m k : ℕ) → AreJoined old m k → AreJoined new m k
 
+-- the method k is among the overloads that the label n stands for
+abbrev pub IsOverload : World → List Row → ℕ → ℕ → Type 0
+IsOverload w rows n k = (x : Overloads) × StandsFor rows n x × AreBeside w x.member_of x.method k
+
+-- the methods of the list are all of these, but those that are among the overloads of the difference
+pub record IsDifference (w : World) (lists : List (List ℕ)) (methods : List ℕ) (d : Difference) : Type 0 where
+  pub list : List ℕ
+  pub at : slice_get lists d.place ≡ Some list
+  pub only : (k : ℕ) → Contains list k → Contains methods k × (AreBeside w d.before.member_of d.before.method k → ⊥)
+  pub all : (k : ℕ) → Contains methods k → Contains list k ⊎ AreBeside w d.before.member_of d.before.method k
+
+-- the row adds these overloads: all of their methods, or the fewer of the difference, where its rest stands for the overloads that this is from
+pub record Adds (rows : List Row) (x : Overloads) (fewer : Option Difference) (row : Row) : Type 0 where
+  pub last : row.last ≡ x
+  pub added : (p : ℕ) → row.added ≡ Some p → (d : Difference) × (fewer ≡ Some d) × (d.place ≡ p) × StandsFor rows row.rest d.before
+
+-- the listed methods are of the overloads x, and with those of the overloads that the label r stands for they are all of them
+pub record IsAddition (w : World) (rows : List Row) (r : ℕ) (x : Overloads) (list : List ℕ) : Type 0 where
+  pub only : (k : ℕ) → Contains list k → AreBeside w x.member_of x.method k
+  pub all : (k : ℕ) → AreBeside w x.member_of x.method k → Contains list k ⊎ IsOverload w rows r k
+
+-- the list of a row that has one is enough for its last overloads
+pub record AreAdditions (w : World) (rows : List Row) (lists : List (List ℕ)) : Type 0 where
+  pub each : (n p : ℕ) (row : Row) → slice_get rows n ≡ Some row → row.added ≡ Some p → (list : List ℕ) × (slice_get lists p ≡ Some list) × IsAddition w rows row.rest row.last list
+
 -- each method has a label, and is among the overloads that this stands for
 pub record AreLabels (w : World) (t : Labels) : Type 0 where
   pub fit : IsFit t
+  pub additions : AreAdditions w t.rows.items t.added.items
   pub size : length t.labels.items ≡ length w.methods
   pub sound : (m : ℕ) (x : Overloads) → IsLabelled t m x → AreBeside w x.member_of x.method m
 
@@ -52,10 +79,6 @@ pub record IsLimit (w : World) (limit : ℕ) : Type 0 where
 abbrev pub IsAgain : World → Option ℕ → ℕ → Type 0
 IsAgain w None m = ⊥
 IsAgain w (Some k) m = AreAlike w k m
-
--- the method k is among the overloads that the label n stands for
-abbrev pub IsOverload : World → List Row → ℕ → ℕ → Type 0
-IsOverload w rows n k = (x : Overloads) × StandsFor rows n x × AreBeside w x.member_of x.method k
 
 -- the overloads that a label stands for are those of member methods
 abbrev pub AreMembers : World → List Row → ℕ → Type 0

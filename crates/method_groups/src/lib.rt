@@ -11,6 +11,7 @@ ghost use Rattle.member_methods.specs.Methods.{HoldsMethods};
 ghost use Rattle.method_groups.specs.Groups.{HoldsGroups};
 
 mod constructors;
+mod differences;
 mod labels;
 mod made;
 mod overloads;
@@ -34,7 +35,9 @@ pub struct MethodGroups {
 impl MethodGroups {
     /// The groups of the methods of a sound world. `NoMemory` also where it has 2^32 methods or types.
     ///
-    /// Takes time and memory for the methods that the types have as members, each as often as there are types that have it. Beyond that, each different group takes time for its numbers, and for the methods of all overloads that its methods stand among and those of no smaller group do; these are sorted. So it is more than linear where methods of one type stand beside different others elsewhere: n such methods have n groups, each of n numbers or more.
+    /// Takes time and memory for the methods that the types have as members, each as often as there are types that have it. Beyond that, each different group takes time for its numbers, and for what is added for the overloads that its methods stand among and those of no smaller group do; these are sorted. So it is more than linear where methods of one type stand beside different others elsewhere: n such methods have n groups, each of n numbers or more.
+    ///
+    /// What is added for overloads are all of their methods; or, for methods that stood among the same overloads before as most of the others, only those that these lack. So where each of n subclasses overrides one of n methods, the groups take time for their numbers, and for sorting them. n types of n overloads each, of which those that come one after the other differ in most, take n * n * n steps at worst.
     pub fn of(alloc: Global, w: &World, lists: &MethodLists) -> Result<MethodGroups, NoMemory>
         requires sound { IsSound w.now }
         requires lists { HoldsMethods w.now lists.now }

@@ -1,18 +1,19 @@
 //! The groups, made from labels.
 
-ghost use Rattle.std.specs.Prelude.{◌≡◌, ◌<◌, ◌↔◌, ℕ, IfOk, OnOk, length};
+ghost use Rattle.std.specs.Prelude.{◌≡◌, ◌<◌, ◌↔◌, ℕ, Some, IfOk, OnOk, length, slice_get};
 ghost use Rattle.std.specs.List.{Contains};
 ghost use Rattle.std.specs.List.Sorted.{IsStrictlyIncreasing};
 ghost use Rattle.class_world.specs.Inheritance.{IsGrouped};
 ghost use Rattle.member_methods.specs.Methods.{HoldsMethods};
 ghost use Rattle.method_groups.specs.Constructors.{found_in};
 ghost use Rattle.method_groups.specs.Groups.{AreMade, HasList, HoldsConstructors, HoldsGroups, KeepsLists};
-ghost use Rattle.method_groups.specs.Labels.{AreAllLabels, AreMembers, IsFit, IsOverload, Passes, StandsFor};
+ghost use Rattle.method_groups.specs.Beside.{AreBeside};
+ghost use Rattle.method_groups.specs.Labels.{AreAdditions, AreAllLabels, AreMembers, IsAddition, IsFit, IsOverload, Passes, StandsFor};
 ghost use Rattle.method_groups.specs.declared.overloads.Overloads as the_overloads;
 
 use crate::MethodGroups;
 use crate::constructors::{Constructors, Shape, shape_of};
-use crate::labels::Labels;
+use crate::labels::{Labels, Row};
 use crate::overloads::methods_of;
 use class_world::World;
 use java_tree::{Items, NoMemory};
@@ -124,6 +125,7 @@ impl Made {
         requires within { label < length labels.now.rows.items }
         requires lists { HoldsMethods w.now lists.now }
         requires fit { IsFit labels.now }
+        requires additions { AreAdditions w.now labels.now.rows.items labels.now.added.items }
         requires members { AreMembers w.now labels.now.rows.items label }
         requires made { AreMade w.now labels.now.rows.items self.old }
         ensures made { OnOk result (AreMade w.now labels.now.rows.items self.new) }
@@ -154,6 +156,7 @@ impl Made {
         requires within { label < length labels.now.rows.items }
         requires lists { HoldsMethods w.now lists.now }
         requires fit { IsFit labels.now }
+        requires additions { AreAdditions w.now labels.now.rows.items labels.now.added.items }
         requires members { AreMembers w.now labels.now.rows.items label }
         requires made { AreMade w.now labels.now.rows.items self.now }
         ensures has { IfOk result (λ v. (k : ℕ) → Contains v.items k ↔ IsOverload w.now labels.now.rows.items label k) }
@@ -182,6 +185,7 @@ impl Made {
         requires within { label < length labels.now.rows.items }
         requires lists { HoldsMethods w.now lists.now }
         requires fit { IsFit labels.now }
+        requires additions { AreAdditions w.now labels.now.rows.items labels.now.added.items }
         requires members { AreMembers w.now labels.now.rows.items label }
         requires made { AreMade w.now labels.now.rows.items self.now }
         ensures falls { IfOk result (λ n. n < label) }
@@ -193,7 +197,21 @@ impl Made {
             return Ok(0);
         }
         let row = labels.rows[label as usize];
-        methods.extend_from_slice(methods_of(w, lists, row.last))?;
+        methods.extend_from_slice(added_by(w, lists, labels, row))?;
         Ok(row.rest)
+    }
+}
+
+/// The methods that a row adds to those of its rest: all that the rest does not stand for, and maybe others of its last overloads.
+fn added_by<'a>(w: &World, lists: &'a MethodLists, labels: &'a Labels, row: Row) -> &'a [u32]
+    requires lists { HoldsMethods w.now lists.now }
+    requires additions { AreAdditions w.now labels.now.rows.items labels.now.added.items }
+    requires row { (n : ℕ) × (slice_get labels.now.rows.items n ≡ Some row) }
+    requires member { AreBeside w.now row.last.member_of row.last.method row.last.method }
+    ensures { IsAddition w.now labels.now.rows.items row.rest row.last result.now }
+{
+    match row.added {
+        Some(place) => labels.added[place as usize].as_slice(),
+        None => methods_of(w, lists, row.last),
     }
 }

@@ -2,6 +2,7 @@
 
 ghost use Rattle.std.specs.Prelude.{◌↔◌, ℕ, IsTrue};
 ghost use Rattle.std.specs.List.{Contains};
+ghost use Rattle.std.specs.List.Sorted.{IsStrictlyIncreasing};
 ghost use Rattle.member_methods.specs.Methods.{HoldsMethods};
 ghost use Rattle.method_groups.specs.Beside.{AreAlike, AreBeside};
 
@@ -18,7 +19,8 @@ pub(crate) struct Overloads {
 /// The numbers of the methods, ascending.
 pub(crate) fn methods_of<'a>(w: &World, lists: &'a MethodLists, x: Overloads) -> &'a [u32]
     requires { HoldsMethods w.now lists.now }
-    ensures { AreBeside w.now x.member_of x.method x.method → (k : ℕ) → Contains result.now k ↔ AreBeside w.now x.member_of x.method k }
+    ensures has { AreBeside w.now x.member_of x.method x.method → (k : ℕ) → Contains result.now k ↔ AreBeside w.now x.member_of x.method k }
+    ensures ascending { IsStrictlyIncreasing result.now }
 {
     match w.methods.get(x.method as usize) {
         Some(info) => lists.named(x.member_of, info.name, info.params.len()),

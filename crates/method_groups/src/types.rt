@@ -68,7 +68,7 @@ fn add_type(
                 member_of: c,
                 method: *m,
             };
-            labels.add(x, methods_of(w, lists, x))?;
+            labels.add(alloc, w, lists, x, methods_of(w, lists, x))?;
             last = Some(*m);
         }
     }

@@ -868,7 +868,7 @@ const COUNTED: [Case<'static>; 9] = [
 ];
 
 /// Methods that are together in some type, and constructors.
-const GROUPS: [Case<'static>; 8] = [
+const GROUPS: [Case<'static>; 9] = [
     (
         "class A { void m(int x) { } void m(long x) { } void m() { } }",
         &[Grouped("A.m", "A.m A.m'"), Grouped("A.m''", "A.m''")],
@@ -912,6 +912,18 @@ const GROUPS: [Case<'static>; 8] = [
             Grouped("A.m", "A.m A.m'"),
             Grouped("A.m'", "A.m A.m' B.m"),
             Grouped("B.m", "A.m' B.m"),
+        ],
+    ),
+    // Each subclass has the overloads of A but one, and one of its own.
+    (
+        "class A { void m(B x) { } void m(C x) { } void m(D x) { } } class B extends A { void m(B x) { } } class C extends A { void m(C x) { } } class D extends A { void m(D x) { } }",
+        &[
+            Grouped("A.m", "A.m A.m' A.m'' C.m D.m"),
+            Grouped("A.m'", "A.m A.m' A.m'' B.m D.m"),
+            Grouped("A.m''", "A.m A.m' A.m'' B.m C.m"),
+            Grouped("B.m", "A.m' A.m'' B.m"),
+            Grouped("C.m", "A.m A.m'' C.m"),
+            Grouped("D.m", "A.m A.m' D.m"),
         ],
     ),
 ];

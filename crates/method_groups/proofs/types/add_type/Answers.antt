@@ -5,7 +5,7 @@ use Rattle.std.proofs.lemmas.Option.{slice_get-get_or}
 use Rattle.class_world.specs.Inheritance.{IsMemberMethod}
 use Rattle.method_groups.proofs.Firsts.{among_all}
 use Rattle.method_groups.proofs.Beside.{member_first, member_beside, beside_first}
-use Rattle.method_groups.proofs.Joins.{again_joined, joined_kept, passed_kept, passed_next, list_within, labels_more, list_joined}
+use Rattle.method_groups.proofs.Joins.{again_joined, joined_kept, passed_kept, passed_next, list_joined}
 use Rattle.method_groups.proofs.types.add_type.Goals as goal
 use Rattle.method_groups.proofs.types.add_type.Goals.{then-not-is_again+in_ok-add, else-not-is_again, After-as_slice-m-items}
 
@@ -13,14 +13,14 @@ its_members : (c : After-as_slice-m-items) → (m : ℕ) → Contains c.as_slice
 its_members c =
     subst (λ l. (m : ℕ) → Contains l m ↔ IsMemberMethod c.args.w.now c.args.c m) (sym c.as_slice-m-items.ensures.value) (c.in_ok-members.ensures c.args.w.now c.requires.lists)
 
-pub add-requires-clause-within : goal.add-requires-clause-within
-add-requires-clause-within c =
+pub add-requires-clause-listed : goal.add-requires-clause-listed
+add-requires-clause-listed c =
     let w = c.args.w.now in
     let items = c.as_slice-m-items.result.now in
     let i = c.loop-m.m-index in
     let m = get_or items i 0 in
-    let member = (its_members ((goal.at.add-requires-clause-within c).After-as_slice-m-items) m).0 (Contains-get_or items i 0 c.loop-m-test.true) in
-    list_within w c.args.c m c.loop-m.labels c.methods_of.result.now c.loop-m.invariant.labels (c.methods_of.ensures (member_beside w c.args.c m member))
+    let member = (its_members ((goal.at.add-requires-clause-listed c).After-as_slice-m-items) m).0 (Contains-get_or items i 0 c.loop-m-test.true) in
+    c.methods_of.ensures.has (member_beside w c.args.c m member)
 
 pub loop-m-preserved : goal.loop-m-preserved
 loop-m-preserved c =
@@ -38,12 +38,12 @@ loop-m-preserved c =
       | then-not-is_again+in_ok-add v ↦
           let new = v.add.new.self in
           let list = v.methods_of.result.now in
-          let listed = v.methods_of.ensures its in
+          let listed = v.methods_of.ensures.has its in
           let added = v.in_ok-add.ensures in
           let kept = joined_kept old new added.kept in
           let joined = list_joined w owner m new list listed added.joined in
           rw (v.labels-is, v.last-is) (record {
-            labels = labels_more w owner m old new list listed h.labels added.fit added.size added.only;
+            labels = added.labels;
             kept = λ a b is. kept a b (h.kept a b is);
             passed = (its, joined);
             all = passed_next w owner new items i m at (passed_kept w owner old new items i kept h.all) joined;

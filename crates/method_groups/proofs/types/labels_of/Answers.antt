@@ -7,7 +7,7 @@ pub loop-c-init : goal.loop-c-init
 loop-c-init c =
     let made = c.in_ok-labels.ensures in
     record {
-      labels = record { fit = made.fit; size = made.size ∙ c.len.ensures; sound = λ m x h. absurd (made.nothing m x h) };
+      labels = record { fit = made.fit; additions = made.additions c.args.w.now; size = made.size ∙ c.len.ensures; sound = λ m x h. absurd (made.nothing m x h) };
       done = done_begins c.args.w.now c.in_ok-labels.labels c.in_ok-order.order.items c.in_ok-order.ensures;
     }
 

@@ -32,6 +32,13 @@ returns-in-Some-clause-adds c =
 row_at : (c : After-index-row) → slice_get c.args.labels.now.rows.items c.args.label ≡ Some c.index-row.result.now
 row_at c = let rows = c.args.labels.now.rows.items in slice_get_read rows (length rows) c.args.label c.index-row.result.now refl c.requires.within c.index-row.ensures
 
+pub added_by-requires-clause-row : goal.added_by-requires-clause-row
+added_by-requires-clause-row c = (c.args.label, row_at ((goal.at.added_by-requires-clause-row c).After-index-row))
+
+pub added_by-requires-clause-member : goal.added_by-requires-clause-member
+added_by-requires-clause-member c =
+    members_last c.args.w.now c.args.labels.now.rows.items c.args.label c.index-row.result.now c.requires.above (row_at ((goal.at.added_by-requires-clause-member c).After-index-row)) c.requires.members
+
 pub returns-clause-falls : goal.returns-clause-falls
 returns-clause-falls c = c.requires.fit.falls c.args.label c.index-row.result.now (row_at ((goal.at.returns-clause-falls c).After-index-row)) c.requires.above
 
@@ -44,6 +51,5 @@ returns-clause-adds c =
     let rows = c.args.labels.now.rows.items in
     let row = c.index-row.result.now in
     let at = row_at ((goal.at.returns-clause-adds c).After-index-row) in
-    let listed = c.methods_of.ensures (members_last w rows c.args.label row c.requires.above at c.requires.members) in
     subst (λ (l : List ℕ). Passes w rows c.args.methods.now.items c.args.label l row.rest) (sym c.in_ok-extend_from_slice-2.ensures.items)
-    (row_passes w rows c.args.methods.now.items c.methods_of.result.now c.args.label row c.requires.above at listed)
+    (row_passes w rows c.args.methods.now.items c.added_by.result.now c.args.label row c.requires.above at c.added_by.ensures)
