@@ -10,7 +10,7 @@ ghost use Rattle.overrides.specs.declared.links.Link as pairs;
 ghost use Rattle.overrides.specs.Tables.{AreOfOneSize, Has};
 ghost use Rattle.overrides.specs.AtOnce.{IsFree};
 ghost use Rattle.overrides.specs.Links.{AreAllLinks, AreLinks, IsLink};
-ghost use Rattle.overrides.specs.Rounds.{AreTaken, Grows, HasTaken, HoldsOverriding, IsDerived, IsFollowed, IsJoined, IsStep, IsTaken};
+ghost use Rattle.overrides.specs.Rounds.{AreTaken, HasTaken, HoldsOverriding, IsDerived, IsFollowed, IsJoined, IsStep, IsTaken};
 
 use crate::links::Link;
 use crate::rows::Table;
@@ -109,7 +109,7 @@ fn is_map(taken: Option<Map>, row: Map) -> bool
 
 /// Adds what the method `m` overrides through `t`, which it overrides at once.
 ///
-/// Where the pair is free, the shorter of the two rows is gone through the first time: that of `m` can begin anew as that of `t`. Else it is that of `t`, with a look-up each, and `agree_below` where the pair is not free.
+/// Where the pair is free, the two rows are united the first time, for the nodes that they do not share. Else the row of `t` is gone through, with a look-up each, and `agree_below` where the pair is not free.
 fn add_through(
     alloc: Global,
     w: &World,
@@ -127,8 +127,8 @@ fn add_through(
     ensures step { IfOk result (IsStep table.old table.new) }
     ensures joined { OnOk result (IsJoined w.now table.old table.new m t) }
 {
-    if free && table.is_no_longer(m, t) && table.get(m, t).is_none() {
-        begin_again(alloc, w, m, t, table)?;
+    if free && table.get(m, t).is_none() {
+        table.unite(m, t)?;
         return Ok(true);
     }
     let mut added = add(m, t, table)?;
@@ -139,24 +139,6 @@ fn add_through(
         }
     }
     Ok(added)
-}
-
-/// Lets the row of `m` begin anew as that of `t`, with `t`, and adds what it had.
-fn begin_again(alloc: Global, w: &World, m: u32, t: u32, table: &mut Table) -> Result<(), NoMemory>
-    requires at_once { OverridesAtOnce w.now m t }
-    requires free { IsFree w.now m t }
-    requires table { IsDerived w.now table.old }
-    ensures table { OnOk result (IsDerived w.now table.new) }
-    ensures maps { OnOk result (KeepsMaps table.old.maps table.new.maps) }
-    ensures grows { OnOk result (Grows table.old table.new) }
-    ensures joined { OnOk result (IsJoined w.now table.old table.new m t) }
-{
-    let own = table.list(alloc, m)?;
-    table.begin(m, t)?;
-    for entry in &own {
-        add(m, entry.0, table)?;
-    }
-    Ok(())
 }
 
 fn add(m: u32, k: u32, table: &mut Table) -> Result<bool, NoMemory>

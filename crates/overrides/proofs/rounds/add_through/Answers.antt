@@ -9,7 +9,8 @@ use Rattle.class_world.specs.Overriding.{Overriding}
 use Rattle.overrides.specs.Tables.{value_at}
 use Rattle.overrides.specs.Rounds.{IsDerived, IsStep}
 use Rattle.overrides.proofs.Places.{items_more, items_all, absent}
-use Rattle.overrides.proofs.Gains.{HasThird, added_derived, derived_row, derived_key, step_on, step_still, third_on}
+use Rattle.overrides.proofs.Belows.{at_once_within}
+use Rattle.overrides.proofs.Gains.{HasThird, added_derived, derived_row, derived_key, step_on, step_still, third_on, united_derived, united_grows, united_joined, united_key}
 use Rattle.overrides.proofs.rounds.add_through.Goals as goal
 use Rattle.overrides.proofs.rounds.add_through.Goals.{After-deref-entry-items, then-branch, else-branch}
 
@@ -30,8 +31,17 @@ add-requires-clause-row c = derived_row c.args.w.now c.args.table.now c.args.m c
 pub add-requires-clause-key : goal.add-requires-clause-key
 add-requires-clause-key c = derived_key c.args.w.now c.args.table.now c.args.m c.args.t c.requires.table (by.at_once c.requires.at_once)
 
-pub begin_again-requires-clause-free : goal.begin_again-requires-clause-free
-begin_again-requires-clause-free c = c.requires.free c.if-free.true
+pub unite-requires-clause-row : goal.unite-requires-clause-row
+unite-requires-clause-row c = derived_row c.args.w.now c.args.table.now c.args.m c.args.t c.requires.table (by.at_once c.requires.at_once)
+
+pub unite-requires-clause-other : goal.unite-requires-clause-other
+unite-requires-clause-other c = let lt = (at_once_within c.requires.at_once).1 in omega (arith, lt, c.requires.table.size.rows)
+
+pub unite-requires-clause-key : goal.unite-requires-clause-key
+unite-requires-clause-key c = derived_key c.args.w.now c.args.table.now c.args.m c.args.t c.requires.table (by.at_once c.requires.at_once)
+
+pub unite-requires-clause-itself : goal.unite-requires-clause-itself
+unite-requires-clause-itself c = let lt = (at_once_within c.requires.at_once).0 in omega (arith, lt, c.requires.table.size.keys)
 
 pub loop-entry-init : goal.loop-entry-init
 loop-entry-init c = record {
@@ -77,21 +87,31 @@ loop-entry-preserved c =
       thirds = items_more {A = ℕ × ℕ} (HasThird w m new) entries i p (λ j q lt is. third_on w m c.loop-entry.table new q added.step.grows (h.thirds j q lt is)) at added.has;
     }
 
+pub returns-then-is_none-clause-table : goal.returns-then-is_none-clause-table
+returns-then-is_none-clause-table c =
+    let both = c.in_ok-unite.ensures in
+    united_derived c.args.table.now c.unite.new.self c.args.m c.args.t both.united c.args.w.now c.requires.table both.size c.requires.at_once (c.requires.free c.if-free.true)
+
 pub returns-then-is_none-clause-step : goal.returns-then-is_none-clause-step
 returns-then-is_none-clause-step c =
-    let begun = c.in_ok-begin_again.ensures in
+    let old = c.args.table.now in
+    let both = c.in_ok-unite.ensures.united in
     record {
-      grows = begun.grows;
+      grows = united_grows old c.unite.new.self c.args.m c.args.t both;
       gains = λ e. (
         c.args.m,
         c.args.t,
         λ had.
-            let none : value_at c.args.table.now c.args.m c.args.t ≡ None = absent c.get.result (value_at c.args.table.now c.args.m c.args.t) c.is_none.result c.get.ensures c.is_none.ensures c.if-is_none.true in
+            let value = value_at old c.args.m c.args.t in
+            let none : value ≡ None = absent c.get.result value c.is_none.result c.get.ensures c.is_none.ensures c.if-is_none.true in
             absurd (cc (none, had.1)),
-        begun.joined.has,
+        united_key old c.unite.new.self c.args.m c.args.t both,
       );
       same = λ e. absurd (cc e);
     }
+
+pub returns-then-is_none-clause-joined : goal.returns-then-is_none-clause-joined
+returns-then-is_none-clause-joined c = united_joined c.args.table.now c.unite.new.self c.args.m c.args.t c.in_ok-unite.ensures.united c.args.w.now
 
 pub returns-clause-joined : goal.returns-clause-joined
 returns-clause-joined c = record {
