@@ -9,7 +9,7 @@ use Rattle.class_world.specs.Signatures.{AgreeBelow}
 use Rattle.class_world.specs.Overriding as by
 use Rattle.class_world.specs.Overriding.{OverridesAtOnce, Overriding}
 use Rattle.class_world.proofs.Words.{same_or_other}
-use Rattle.overrides.specs.Tables.{Rows, IsOfSize, AreOfOneSize, IsUnited, Has, given, value_at}
+use Rattle.overrides.specs.Tables.{Rows, IsOfSize, AreOfOneSize, IsUnited, Has, HasRow, Lacks, given, value_at}
 use Rattle.overrides.specs.AtOnce.{IsFree}
 use Rattle.overrides.specs.Rounds.{Grows, IsDerived, IsStep, IsFollowed, IsJoined, HoldsOverriding}
 use Rattle.overrides.proofs.Places.{items_more, items_all}
@@ -52,14 +52,14 @@ or_either None p v is = inr is
 or_either (Some u) p v is = inl is
 
 module _ (old new : Rows) (m t : ℕ) (both : IsUnited old new m t) where
-  pub united_key : Has new m t
+  united_key : Has new m t
   united_key = (0, both.row t ∙ cond-true (t == t) (Some 0) (option_or (value_at old m t) (given old m t t)) (eq-eqb t t refl))
 
   -- a key other than t
   united_other : (k : ℕ) → (k ≡ t → ⊥) → value_at new m k ≡ option_or (value_at old m k) (given old m t k)
   united_other k other = both.row k ∙ cond-false (k == t) (Some 0) (option_or (value_at old m k) (given old m t k)) (ne_eqb k t other)
 
-  pub united_grows : Grows old new
+  united_grows : Grows old new
   united_grows a b h = elim (same_or_other a m) [
     | inl row ↦ elim (same_or_other b t) [
       | inl key ↦ subst (λ i. Has new i b) (sym row) (subst (Has new m) (sym key) united_key)
@@ -68,15 +68,23 @@ module _ (old new : Rows) (m t : ℕ) (both : IsUnited old new m t) where
     | inr other ↦ (h.0, both.there a b other ∙ h.1)
   ]
 
+  -- what the row of t has but for m
+  united_above : (k : ℕ) → Has old t k → (m ≡ k → ⊥) → Has new m k
+  united_above k h other = elim (same_or_other k t) [
+    | inl key ↦ subst (Has new m) (sym key) united_key
+    | inr apart ↦
+        let more = or_right (value_at old m k) (given old m t k) h.0 (cond-false (k == m) None (value_at old t k) (ne_eqb k m (λ e. other (sym e))) ∙ h.1) in
+        (more.0, united_other k apart ∙ more.1)
+  ]
+
   pub united_joined : (w : World) → IsJoined w old new m t
-  united_joined w = record {
-    has = united_key;
-    all = λ k h other agree. elim (same_or_other k t) [
-      | inl key ↦ subst (Has new m) (sym key) united_key
-      | inr apart ↦
-          let more = or_right (value_at old m k) (given old m t k) h.0 (cond-false (k == m) None (value_at old t k) (ne_eqb k m (λ e. other (sym e))) ∙ h.1) in
-          (more.0, united_other k apart ∙ more.1)
-    ];
+  united_joined w = record { has = united_key; all = λ k h other agree. united_above k h other }
+
+  pub united_step : Lacks old m t → IsStep old new true
+  united_step lacks = record {
+    grows = united_grows;
+    gains = λ e. (m, lacks.0, lacks.1, elim lacks.2 [ inl key ↦ subst (Has new m) (sym key) united_key | inr above ↦ united_above lacks.0 above.0 above.1 ]);
+    same = λ e. absurd (cc e);
   }
 
   united_row : (w : World) → IsDerived w old → OverridesAtOnce w m t → IsFree w m t → (b : ℕ) → Has new m b → Overriding w m b
@@ -101,6 +109,10 @@ module _ (old new : Rows) (m t : ℕ) (both : IsUnited old new m t) where
       | inr other ↦ derived.sound a b (h.0, sym (both.there a b other) ∙ h.1)
     ];
   }
+
+-- all is there
+pub whole_joined : (w : World) (t : Rows) (m x : ℕ) → HasRow t m x → IsJoined w t t m x
+whole_joined w t m x whole = record { has = whole.key; all = λ k h other agree. whole.row k h other }
 
 -- ---- what is in the rows
 

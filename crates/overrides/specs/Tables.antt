@@ -1,5 +1,5 @@
 -- A table of numbers by a row and a key: a map for each row, in one memory.
-use Rattle.std.specs.Prelude.{◌≡◌, ◌==◌, ℕ, List, Option, Some, None, if◌then◌else◌, slice_get, length}
+use Rattle.std.specs.Prelude.{◌≡◌, ◌==◌, ℕ, List, Option, Some, None, if◌then◌else◌, ◌⊎◌, slice_get, length}
 use Rattle.std.specs.Option.{option_or}
 use Rattle.shared_maps.specs.declared.Map.{Map}
 use Rattle.shared_maps.specs.Trees.{Memory}
@@ -50,3 +50,12 @@ united table m t key = if key == t then Some 0 else option_or (value_at table m 
 pub record IsUnited (old new : Rows) (m t : ℕ) : Type 0 where
   pub row : (key : ℕ) → value_at new m key ≡ united old m t key
   pub there : (a b : ℕ) → (a ≡ m → ⊥) → value_at new a b ≡ value_at old a b
+
+-- a key that the row of m has not, and gets from that of t
+abbrev pub Lacks : Rows → ℕ → ℕ → Type 0
+Lacks table m t = (k : ℕ) × (Has table m k → ⊥) × ((k ≡ t) ⊎ (Has table t k × (m ≡ k → ⊥)))
+
+-- the row of m has t, and all that the row of t has but for m
+pub record HasRow (table : Rows) (m t : ℕ) : Type 0 where
+  pub key : Has table m t
+  pub row : (k : ℕ) → Has table t k → (m ≡ k → ⊥) → Has table m k

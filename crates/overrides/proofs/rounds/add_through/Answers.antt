@@ -1,4 +1,4 @@
-use Rattle.std.proofs.Common.{◌≡◌, ℕ, None, sym, subst, get_or, arith}
+use Rattle.std.proofs.Common.{ℕ, sym, subst, get_or, arith}
 use Rattle.std.specs.List.{Contains}
 use Rattle.std.proofs.lemmas.Option.{slice_get-get_or}
 use Rattle.std.proofs.lemmas.List.Elements.{Contains-get_or}
@@ -8,9 +8,8 @@ use Rattle.class_world.specs.Overriding as by
 use Rattle.class_world.specs.Overriding.{Overriding}
 use Rattle.overrides.specs.Tables.{value_at}
 use Rattle.overrides.specs.Rounds.{IsDerived, IsStep}
-use Rattle.overrides.proofs.Places.{items_more, items_all, absent}
-use Rattle.overrides.proofs.Belows.{at_once_within}
-use Rattle.overrides.proofs.Gains.{HasThird, added_derived, derived_row, derived_key, step_on, step_still, third_on, united_derived, united_grows, united_joined, united_key}
+use Rattle.overrides.proofs.Places.{items_more, items_all}
+use Rattle.overrides.proofs.Gains.{HasThird, added_derived, derived_row, derived_key, step_on, step_still, third_on}
 use Rattle.overrides.proofs.rounds.add_through.Goals as goal
 use Rattle.overrides.proofs.rounds.add_through.Goals.{After-deref-entry-items, then-branch, else-branch}
 
@@ -31,17 +30,8 @@ add-requires-clause-row c = derived_row c.args.w.now c.args.table.now c.args.m c
 pub add-requires-clause-key : goal.add-requires-clause-key
 add-requires-clause-key c = derived_key c.args.w.now c.args.table.now c.args.m c.args.t c.requires.table (by.at_once c.requires.at_once)
 
-pub unite-requires-clause-row : goal.unite-requires-clause-row
-unite-requires-clause-row c = derived_row c.args.w.now c.args.table.now c.args.m c.args.t c.requires.table (by.at_once c.requires.at_once)
-
-pub unite-requires-clause-other : goal.unite-requires-clause-other
-unite-requires-clause-other c = let lt = (at_once_within c.requires.at_once).1 in omega (arith, lt, c.requires.table.size.rows)
-
-pub unite-requires-clause-key : goal.unite-requires-clause-key
-unite-requires-clause-key c = derived_key c.args.w.now c.args.table.now c.args.m c.args.t c.requires.table (by.at_once c.requires.at_once)
-
-pub unite-requires-clause-itself : goal.unite-requires-clause-itself
-unite-requires-clause-itself c = let lt = (at_once_within c.requires.at_once).0 in omega (arith, lt, c.requires.table.size.keys)
+pub add_row-requires-clause-free : goal.add_row-requires-clause-free
+add_row-requires-clause-free c = c.requires.free c.if-free.true
 
 pub loop-entry-init : goal.loop-entry-init
 loop-entry-init c = record {
@@ -57,12 +47,6 @@ add_third-requires-clause-through c other agree =
     let entries = c.deref-entry-items.result.now in
     let up = above ((goal.at.add_third-requires-clause-through c).After-deref-entry-items) (get_or entries c.loop-entry.entry-index (0, 0)) (Contains-get_or entries c.loop-entry.entry-index (0, 0) c.loop-entry-test.true) in
     by.through c.requires.at_once up other agree
-
-pub add_third-requires-clause-free : goal.add_third-requires-clause-free
-add_third-requires-clause-free c free =
-    let entries = c.deref-entry-items.result.now in
-    let p = get_or entries c.loop-entry.entry-index (0, 0) in
-    c.requires.free free p.0 (above ((goal.at.add_third-requires-clause-free c).After-deref-entry-items) p (Contains-get_or entries c.loop-entry.entry-index (0, 0) c.loop-entry-test.true))
 
 pub loop-entry-preserved : goal.loop-entry-preserved
 loop-entry-preserved c =
@@ -86,32 +70,6 @@ loop-entry-preserved c =
       has = added.step.grows m c.args.t h.has;
       thirds = items_more {A = ℕ × ℕ} (HasThird w m new) entries i p (λ j q lt is. third_on w m c.loop-entry.table new q added.step.grows (h.thirds j q lt is)) at added.has;
     }
-
-pub returns-then-is_none-clause-table : goal.returns-then-is_none-clause-table
-returns-then-is_none-clause-table c =
-    let both = c.in_ok-unite.ensures in
-    united_derived c.args.table.now c.unite.new.self c.args.m c.args.t both.united c.args.w.now c.requires.table both.size c.requires.at_once (c.requires.free c.if-free.true)
-
-pub returns-then-is_none-clause-step : goal.returns-then-is_none-clause-step
-returns-then-is_none-clause-step c =
-    let old = c.args.table.now in
-    let both = c.in_ok-unite.ensures.united in
-    record {
-      grows = united_grows old c.unite.new.self c.args.m c.args.t both;
-      gains = λ e. (
-        c.args.m,
-        c.args.t,
-        λ had.
-            let value = value_at old c.args.m c.args.t in
-            let none : value ≡ None = absent c.get.result value c.is_none.result c.get.ensures c.is_none.ensures c.if-is_none.true in
-            absurd (cc (none, had.1)),
-        united_key old c.unite.new.self c.args.m c.args.t both,
-      );
-      same = λ e. absurd (cc e);
-    }
-
-pub returns-then-is_none-clause-joined : goal.returns-then-is_none-clause-joined
-returns-then-is_none-clause-joined c = united_joined c.args.table.now c.unite.new.self c.args.m c.args.t c.in_ok-unite.ensures.united c.args.w.now
 
 pub returns-clause-joined : goal.returns-clause-joined
 returns-clause-joined c = record {
