@@ -140,7 +140,7 @@ fn add_through(
     Ok(added)
 }
 
-/// Adds `t` and all that it overrides to the row of `m`, unless all of that is there.
+/// Adds `t` and all that it overrides to the row of `m`, in the time and memory of the nodes that the two rows do not share; unless all of that is there, which a look-up for each entry tells.
 fn add_row(alloc: Global, w: &World, m: u32, t: u32, table: &mut Table) -> Result<bool, NoMemory>
     requires at_once { OverridesAtOnce w.now m t }
     requires free { IsFree w.now m t }
@@ -170,6 +170,7 @@ fn lacks_row(alloc: Global, m: u32, t: u32, table: &Table) -> Result<bool, NoMem
     Ok(found)
 }
 
+/// Whether the row of `m` lacks a key of the entries, other than `m`.
 fn lacks_entry(m: u32, entries: &[(u32, u32)], table: &Table) -> bool
     ensures lacks { IsTrue result → (p : ℕ × ℕ) × Contains entries.now p × (m ≡ p.0 → ⊥) × (Has table.now m p.0 → ⊥) }
     ensures whole { result ≡ false → (p : ℕ × ℕ) → Contains entries.now p → (m ≡ p.0 → ⊥) → Has table.now m p.0 }
@@ -182,6 +183,7 @@ fn lacks_entry(m: u32, entries: &[(u32, u32)], table: &Table) -> bool
     false
 }
 
+/// Whether the row of `m` lacks a key, other than `m`.
 fn lacks_key(m: u32, k: u32, table: &Table) -> bool
     ensures lacks { IsTrue result → (m ≡ k → ⊥) × (Has table.now m k → ⊥) }
     ensures has { result ≡ false → (m ≡ k → ⊥) → Has table.now m k }
