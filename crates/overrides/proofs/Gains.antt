@@ -1,13 +1,15 @@
 -- Steps that add to the rows of a table.
-use Rattle.std.proofs.Common.{◌≡◌, ℕ, ◌+◌, ◌<◌, ◌≤◌, List, Bool, true, false, Some, None, ◌⊎◌, inl, inr, refl, sym, ap, ◌∙◌, subst, length, arith}
-use Rattle.std.specs.Prelude.{slice_get}
+use Rattle.std.proofs.Common.{◌≡◌, ℕ, ◌+◌, ◌<◌, ◌≤◌, List, Bool, true, false, Option, Some, None, ◌⊎◌, inl, inr, refl, sym, ap, ◌∙◌, subst, length, arith}
+use Rattle.std.specs.Prelude.{◌==◌, slice_get}
 use Rattle.std.specs.List.{Contains}
+use Rattle.std.specs.Option.{option_or}
+use Rattle.std.proofs.lemmas.Bool.{cond-false, cond-true, eq-eqb, ne_eqb}
 use Rattle.class_world.specs.declared.world.World.{World}
 use Rattle.class_world.specs.Signatures.{AgreeBelow}
 use Rattle.class_world.specs.Overriding as by
 use Rattle.class_world.specs.Overriding.{OverridesAtOnce, Overriding}
 use Rattle.class_world.proofs.Words.{same_or_other}
-use Rattle.overrides.specs.Tables.{Rows, IsOfSize, AreOfOneSize, IsBegun, Has, value_at}
+use Rattle.overrides.specs.Tables.{Rows, IsOfSize, AreOfOneSize, IsUnited, Has, HasRow, Lacks, given, value_at}
 use Rattle.overrides.specs.AtOnce.{IsFree}
 use Rattle.overrides.specs.Rounds.{Grows, IsDerived, IsStep, IsFollowed, IsJoined, HoldsOverriding}
 use Rattle.overrides.proofs.Places.{items_more, items_all}
@@ -36,42 +38,81 @@ same_size old new = record { rows = new.rows ∙ sym old.rows; keys = new.keys �
 pub size_on : {n : ℕ} {old new : Rows} → IsOfSize n old → AreOfOneSize old new → IsOfSize n new
 size_on old same = record { rows = same.rows ∙ old.rows; keys = same.keys ∙ old.keys }
 
--- ---- a row begun
+-- ---- two rows united
 
-module _ (old new : Rows) (m t : ℕ) (begun : IsBegun old new m t) where
-  pub begun_others : (a b : ℕ) → (a ≡ m → ⊥) → Has old a b → Has new a b
-  begun_others a b other h = (h.0, begun.there a b other ∙ h.1)
+or_left : (o p : Option ℕ) (v : ℕ) → o ≡ Some v → option_or o p ≡ Some v
+or_left o p v is = ap (λ x. option_or x p) is
 
-  pub begun_joined : (w : World) → IsJoined w old new m t
-  begun_joined w = record {
-    has = begun.here;
-    all = λ k h other agree. elim (same_or_other k t) [
-      | inl key ↦ subst (λ i. Has new m i) (sym key) begun.here
-      | inr apart ↦ (h.0, begun.row k (λ e. other (sym e)) apart ∙ h.1)
-    ];
+or_right : (o p : Option ℕ) (v : ℕ) → p ≡ Some v → (u : ℕ) × (option_or o p ≡ Some u)
+or_right None p v is = (v, is)
+or_right (Some u) p v is = (u, refl)
+
+or_either : (o p : Option ℕ) (v : ℕ) → option_or o p ≡ Some v → (o ≡ Some v) ⊎ (p ≡ Some v)
+or_either None p v is = inr is
+or_either (Some u) p v is = inl is
+
+module _ (old new : Rows) (m t : ℕ) (both : IsUnited old new m t) where
+  united_key : Has new m t
+  united_key = (0, both.row t ∙ cond-true (t == t) (Some 0) (option_or (value_at old m t) (given old m t t)) (eq-eqb t t refl))
+
+  -- a key other than t
+  united_other : (k : ℕ) → (k ≡ t → ⊥) → value_at new m k ≡ option_or (value_at old m k) (given old m t k)
+  united_other k other = both.row k ∙ cond-false (k == t) (Some 0) (option_or (value_at old m k) (given old m t k)) (ne_eqb k t other)
+
+  united_grows : Grows old new
+  united_grows a b h = elim (same_or_other a m) [
+    | inl row ↦ elim (same_or_other b t) [
+      | inl key ↦ subst (λ i. Has new i b) (sym row) (subst (Has new m) (sym key) united_key)
+      | inr other ↦ subst (λ i. Has new i b) (sym row) (h.0, united_other b other ∙ or_left (value_at old m b) (given old m t b) h.0 (ap (λ i. value_at old i b) (sym row) ∙ h.1))
+    ]
+    | inr other ↦ (h.0, both.there a b other ∙ h.1)
+  ]
+
+  -- what the row of t has but for m
+  united_above : (k : ℕ) → Has old t k → (m ≡ k → ⊥) → Has new m k
+  united_above k h other = elim (same_or_other k t) [
+    | inl key ↦ subst (Has new m) (sym key) united_key
+    | inr apart ↦
+        let more = or_right (value_at old m k) (given old m t k) h.0 (cond-false (k == m) None (value_at old t k) (ne_eqb k m (λ e. other (sym e))) ∙ h.1) in
+        (more.0, united_other k apart ∙ more.1)
+  ]
+
+  pub united_joined : (w : World) → IsJoined w old new m t
+  united_joined w = record { has = united_key; all = λ k h other agree. united_above k h other }
+
+  pub united_step : Lacks old m t → IsStep old new true
+  united_step lacks = record {
+    grows = united_grows;
+    gains = λ e. (m, lacks.0, lacks.1, elim lacks.2 [ inl key ↦ subst (Has new m) (sym key) united_key | inr above ↦ united_above lacks.0 above.0 above.1 ]);
+    same = λ e. absurd (cc e);
   }
 
-  begun_row : (w : World) → IsDerived w old → OverridesAtOnce w m t → IsFree w m t → (b : ℕ) → Has new m b → Overriding w m b
-  begun_row w derived edge free b h = elim (same_or_other b t) [
+  united_row : (w : World) → IsDerived w old → OverridesAtOnce w m t → IsFree w m t → (b : ℕ) → Has new m b → Overriding w m b
+  united_row w derived edge free b h = elim (same_or_other b t) [
     | inl key ↦ subst (Overriding w m) (sym key) (by.at_once edge)
-    | inr other ↦ elim (same_or_other b m) [
-      | inl itself ↦
-          let never : None ≡ Some h.0 = sym (begun.itself (λ e. other (itself ∙ e))) ∙ ap (value_at new m) (sym itself) ∙ h.1 in
-          absurd (cc never)
-      | inr apart ↦
-          let up = derived.sound t b (h.0, sym (begun.row b apart other) ∙ h.1) in
-          by.through edge up (λ e. apart (sym e)) (free b up)
+    | inr apart ↦ elim (or_either (value_at old m b) (given old m t b) h.0 (sym (united_other b apart) ∙ h.1)) [
+      | inl own ↦ derived.sound m b (h.0, own)
+      | inr above ↦ elim (same_or_other b m) [
+        | inl itself ↦ let never : None ≡ Some h.0 = sym (cond-true (b == m) None (value_at old t b) (eq-eqb b m itself)) ∙ above in absurd (cc never)
+        | inr other ↦
+            let up = derived.sound t b (h.0, sym (cond-false (b == m) None (value_at old t b) (ne_eqb b m other)) ∙ above) in
+            by.through edge up (λ e. other (sym e)) (free b up)
+      ]
     ]
   ]
 
-  pub begun_derived : (w : World) → IsDerived w old → AreOfOneSize old new → OverridesAtOnce w m t → IsFree w m t → IsDerived w new
-  begun_derived w derived size edge free = record {
+  pub united_derived : (w : World) → IsDerived w old → AreOfOneSize old new → OverridesAtOnce w m t → IsFree w m t → IsDerived w new
+  united_derived w derived size edge free = record {
     size = size_on derived.size size;
     sound = λ a b h. elim (same_or_other a m) [
-      | inl row ↦ subst (λ i. Overriding w i b) (sym row) (begun_row w derived edge free b (h.0, ap (λ i. value_at new i b) (sym row) ∙ h.1))
-      | inr other ↦ derived.sound a b (h.0, sym (begun.there a b other) ∙ h.1)
+      | inl row ↦ subst (λ i. Overriding w i b) (sym row) (united_row w derived edge free b (h.0, ap (λ i. value_at new i b) (sym row) ∙ h.1))
+      | inr other ↦ derived.sound a b (h.0, sym (both.there a b other) ∙ h.1)
     ];
   }
+
+-- all is there
+pub whole_joined : (w : World) (t : Rows) (m x : ℕ) → HasRow t m x → IsJoined w t t m x
+whole_joined w t m x whole = record { has = whole.key; all = λ k h other agree. whole.row k h other }
 
 -- ---- what is in the rows
 

@@ -1,14 +1,16 @@
 -- A table after a write.
 use Rattle.std.proofs.Common.{◌≡◌, ℕ, ◌<◌, List, Option, Some, None, ◌⊎◌, inl, inr, refl, sym, ap, ◌∙◌, subst, length, arith}
 use Rattle.std.specs.Prelude.{slice_get, slice_set, ◌==◌, if◌then◌else◌}
+use Rattle.std.specs.Option.{option_or}
 use Rattle.std.proofs.lemmas.Bool.{cases_lt, eq-eqb, ne_eqb, cond-true, cond-false}
 use Rattle.std.proofs.lemmas.Option.{slice_get_within}
 use Rattle.shared_maps.specs.declared.Map.{Map}
 use Rattle.shared_maps.specs.Trees.{Memory}
 use Rattle.shared_maps.specs.Maps.{IsMap, KeepsMaps, value_in}
+use Rattle.shared_maps.proofs.Kept.{keeps_both}
 use Rattle.shared_maps.proofs.Views.{value_outside}
 use Rattle.class_world.proofs.Words.{set_here, set_there, same_or_other, length_set}
-use Rattle.overrides.specs.Tables.{IsTable, IsWritten, IsBegun, value_of}
+use Rattle.overrides.specs.Tables.{IsTable, IsUnited, IsWritten, value_of}
 
 -- what `put` says of the keys below the limit, at one key and at all others
 abbrev pub PutsValue : Memory → Memory → Map → Map → ℕ → Option ℕ → Type 0
@@ -22,6 +24,16 @@ put_there : (old new : Memory) (map put : Map) (key : ℕ) (value : Option ℕ) 
 put_there old new map put key value keys puts k other = elim (cases_lt k old.keys) [
   | inl lt ↦ puts k lt ∙ cond-false (k == key) value (value_in old map k) (ne_eqb k key other)
   | inr le ↦ value_outside new put k (omega (arith, le, keys)) ∙ sym (value_outside old map k le)
+]
+
+-- at every key, below the limit or not
+put_each : (old new : Memory) (map put : Map) (key : ℕ) (value : Option ℕ) → key < old.keys → new.keys ≡ old.keys → PutsValue old new map put key value → (k : ℕ)
+    → value_in new put k ≡ (if k == key then value else value_in old map k)
+put_each old new map put key value lt keys puts k = elim (cases_lt k old.keys) [
+  | inl small ↦ puts k small
+  | inr past ↦
+      value_outside new put k (omega (arith, past, keys)) ∙ sym (value_outside old map k past)
+      ∙ sym (cond-false (k == key) value (value_in old map k) (ne_eqb k key (λ e. absurd (omega (arith, e, past, lt)))))
 ]
 
 value_kept : (old new : Memory) (rows : List Map) → IsTable old rows → KeepsMaps old new → (a b : ℕ) → value_of new (slice_get rows a) b ≡ value_of old (slice_get rows a) b
@@ -62,17 +74,27 @@ module _ (old new : Memory) (rows : List Map) (m key v : ℕ) (map put : Map) (t
           ∙ put_there old new map put key (Some v) kept.keys puts b (other (sym same)) ∙ sym (ap (λ o. value_of old o b) at) ∙ ap (λ i. value_of old (slice_get rows i) b) same
       by a b other (inr there) = ap (λ o. value_of new o b) (set_there rows m a put there) ∙ value_kept old new rows table kept a b
 
-module _ (old mid new : Memory) (rows : List Map) (m t : ℕ) (map rest put : Map) (table : IsTable old rows) (kept : KeepsMaps old mid) (again : KeepsMaps mid new) where
-  pub row_begun : slice_get rows t ≡ Some map → m < length rows → m < old.keys → t < old.keys → PutsValue old mid map rest m None → PutsValue mid new rest put t (Some 0)
-      → IsBegun (record { maps = old; rows = rows }) (record { maps = new; rows = slice_set rows m put }) m t
-  row_begun at within small lt without with = record {
-    here = (0, here t ∙ put_here mid new rest put t (Some 0) (omega (arith, lt, kept.keys)) with);
-    itself = λ other. here m ∙ put_there mid new rest put t (Some 0) again.keys with m other ∙ put_here old mid map rest m None small without;
-    row = λ key not_m not_t.
-        here key ∙ put_there mid new rest put t (Some 0) again.keys with key not_t ∙ put_there old mid map rest m None kept.keys without key not_m ∙ sym (ap (λ o. value_of old o key) at);
+-- the key is not there
+pub without_none : (m : Memory) (map : Map) (key : ℕ) → value_in m map key ≡ None → PutsValue m m map map key None
+without_none m map key none k lt = elim (same_or_other k key) [
+  | inl same ↦ ap (value_in m map) same ∙ none ∙ sym (cond-true (k == key) None (value_in m map k) (eq-eqb k key same))
+  | inr other ↦ sym (cond-false (k == key) None (value_in m map k) (ne_eqb k key other))
+]
+
+-- the rows m and t, that of t without m, the union of both, and that with t
+module _ (old first second new : Memory) (rows : List Map) (m t : ℕ) (own upper above both put : Map) (table : IsTable old rows) (kept : KeepsMaps old first) (kept' : KeepsMaps first second)
+    (kept'' : KeepsMaps second new) where
+  pub row_united : slice_get rows m ≡ Some own → slice_get rows t ≡ Some upper → m < old.keys → t < old.keys → PutsValue old first upper above m None
+      → ((k : ℕ) → value_in second both k ≡ option_or (value_in first own k) (value_in first above k)) → PutsValue second new both put t (Some 0)
+      → IsUnited (record { maps = old; rows = rows }) (record { maps = new; rows = slice_set rows m put }) m t
+  row_united at_m at_t small lt without union with = record {
+    row = λ key.
+        ap (λ o. value_of new o key) (set_here rows m put (slice_get_within rows m own at_m))
+        ∙ put_each second new both put t (Some 0) (omega (arith, lt, kept.keys, kept'.keys)) kept''.keys with key
+        ∙ ap (λ o. if key == t then Some 0 else o)
+        (union key ∙ ap (λ o. option_or o (value_in first above key)) (kept.value own (table.each m own at_m) key ∙ sym (ap (λ o. value_of old o key) at_m))
+        ∙ ap (λ o. option_or (value_of old (slice_get rows m) key) o)
+        (put_each old first upper above m None small kept.keys without key ∙ ap (λ o. if key == m then None else o) (sym (ap (λ o. value_of old o key) at_t))));
     there = λ a b other.
-        ap (λ o. value_of new o b) (set_there rows m a put (λ e. other (sym e))) ∙ value_kept mid new rows (table_kept table kept) again a b ∙ value_kept old mid rows table kept a b;
+        ap (λ o. value_of new o b) (set_there rows m a put (λ e. other (sym e))) ∙ value_kept old new rows table (keeps_both kept (keeps_both kept' kept'')) a b;
   }
-    where
-      here : (key : ℕ) → value_of new (slice_get (slice_set rows m put) m) key ≡ value_in new put key
-      here key = ap (λ o. value_of new o key) (set_here rows m put within)

@@ -53,3 +53,8 @@ some_there (Some v) value b is told so = (v, sym is)
 pub absent : (found value : Option ℕ) (b : Bool) → found ≡ value → is_some found ≡ not b → b ≡ true → value ≡ None
 absent None value b is told so = sym is
 absent (Some v) value b is told so = let never = not_from_true b so in absurd (cc (told, never))
+
+pub present : (found value : Option ℕ) (b : Bool) → found ≡ value → is_some found ≡ not b → b ≡ false → (v : ℕ) × (value ≡ Some v)
+present None value true is told so = absurd (cc so)
+present None value false is told so = let never : false ≡ true = told in absurd (cc never)
+present (Some v) value b is told so = (v, sym is)

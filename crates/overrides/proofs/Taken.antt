@@ -13,9 +13,6 @@ use Rattle.overrides.specs.Tables.{Rows, value_at}
 use Rattle.overrides.specs.Links.{AreAllLinks}
 use Rattle.overrides.specs.Rounds.{Grows, IsFollowed, IsJoined, IsTaken, AreTaken}
 
-pub joined_on : (w : World) (old mid new : Rows) (m t : ℕ) → IsJoined w old mid m t → Grows mid new → IsJoined w old new m t
-joined_on w old mid new m t h grows = record { has = grows m t h.has; all = λ k has other agree. grows m k (h.all k has other agree) }
-
 pub taken_on : (w : World) (old new : Rows) (m t : ℕ) (map : Map) → IsTaken w old m t map → Grows old new → KeepsMaps old.maps new.maps → IsTaken w new m t map
 taken_on w old new m t map h grows kept = record {
   known = kept.map map h.known;

@@ -43,7 +43,7 @@ pub struct Overrides {
 impl Overrides {
     /// What the methods of a sound world override. `NoMemory` also where it has 2^32 methods or types.
     ///
-    /// Takes `agree_below` once for each pair that meets, and two rounds over the pairs of which a method overrides the other at once, or three where circles stand among them; each look-up is one at as many nodes as method numbers have bits. The row of what a method overrides begins as that of one of these, with which it shares its nodes, so that a chain takes the time and memory of its methods. Of each further one that it overrides at once the shorter of the two rows is gone through, or the longer one where it was there already; where type variables stand in parameter types, each entry may cost an `agree_below`.
+    /// Takes `agree_below` once for each pair that meets, and two rounds over the pairs of which a method overrides the other at once, or three where circles stand among them; each look-up is one at as many nodes as method numbers have bits. The row of what a method overrides is united with that of each one that it overrides at once, in the time and memory of the nodes that the two do not share: so a chain takes time and memory for its methods, and so do the types below several chains. The row of one that was there already is looked through first, with a look-up for each entry. Where type variables stand in parameter types, rows are not united: each entry is looked up, may cost an `agree_below`, and is added by itself.
     pub fn of(alloc: Global, w: &World, ties: &MethodTies) -> Result<Overrides, NoMemory>
         requires sound { IsSound w.now }
         requires ties { HoldsTies w.now ties.now }

@@ -1,16 +1,16 @@
 //! Overriding through a third method (JLS 3rd edition, 8.4.8.1).
 
-ghost use Rattle.std.specs.Prelude.{◌≡◌, ℕ, ◌<◌, ◌⊎◌, ◌↔◌, Some, false, length, IsTrue, IfOk, OnOk};
+ghost use Rattle.std.specs.Prelude.{◌≡◌, ℕ, ◌<◌, ◌⊎◌, Some, false, length, IsTrue, IfOk, OnOk};
 ghost use Rattle.std.specs.List.{Contains};
 ghost use Rattle.shared_maps.specs.Maps.{KeepsMaps};
 ghost use Rattle.class_world.specs.Sound.{IsSound};
 ghost use Rattle.class_world.specs.Signatures.{AgreeBelow};
 ghost use Rattle.class_world.specs.Overriding.{OverridesAtOnce, Overriding};
 ghost use Rattle.overrides.specs.declared.links.Link as pairs;
-ghost use Rattle.overrides.specs.Tables.{AreOfOneSize, Has};
+ghost use Rattle.overrides.specs.Tables.{AreOfOneSize, Has, HasRow, Lacks};
 ghost use Rattle.overrides.specs.AtOnce.{IsFree};
 ghost use Rattle.overrides.specs.Links.{AreAllLinks, AreLinks, IsLink};
-ghost use Rattle.overrides.specs.Rounds.{AreTaken, Grows, HasTaken, HoldsOverriding, IsDerived, IsFollowed, IsJoined, IsStep, IsTaken};
+ghost use Rattle.overrides.specs.Rounds.{AreTaken, HasTaken, HoldsOverriding, IsDerived, IsFollowed, IsJoined, IsStep, IsTaken};
 
 use crate::links::Link;
 use crate::rows::Table;
@@ -109,7 +109,7 @@ fn is_map(taken: Option<Map>, row: Map) -> bool
 
 /// Adds what the method `m` overrides through `t`, which it overrides at once.
 ///
-/// Where the pair is free, the shorter of the two rows is gone through the first time: that of `m` can begin anew as that of `t`. Else it is that of `t`, with a look-up each, and `agree_below` where the pair is not free.
+/// Where the pair is free, that is all that `t` overrides, and the two rows are united. Else the row of `t` is gone through, with a look-up and an `agree_below` for each entry.
 fn add_through(
     alloc: Global,
     w: &World,
@@ -127,36 +127,71 @@ fn add_through(
     ensures step { IfOk result (IsStep table.old table.new) }
     ensures joined { OnOk result (IsJoined w.now table.old table.new m t) }
 {
-    if free && table.is_no_longer(m, t) && table.get(m, t).is_none() {
-        begin_again(alloc, w, m, t, table)?;
-        return Ok(true);
+    if free {
+        return add_row(alloc, w, m, t, table);
     }
     let mut added = add(m, t, table)?;
     let above = table.list(alloc, t)?;
     for entry in &above {
-        if add_third(alloc, w, m, entry.0, free, table)? {
+        if add_third(alloc, w, m, entry.0, table)? {
             added = true;
         }
     }
     Ok(added)
 }
 
-/// Lets the row of `m` begin anew as that of `t`, with `t`, and adds what it had.
-fn begin_again(alloc: Global, w: &World, m: u32, t: u32, table: &mut Table) -> Result<(), NoMemory>
+/// Adds `t` and all that it overrides to the row of `m`, in the time and memory of the nodes that the two rows do not share; unless all of that is there, which a look-up for each entry tells.
+fn add_row(alloc: Global, w: &World, m: u32, t: u32, table: &mut Table) -> Result<bool, NoMemory>
     requires at_once { OverridesAtOnce w.now m t }
     requires free { IsFree w.now m t }
     requires table { IsDerived w.now table.old }
     ensures table { OnOk result (IsDerived w.now table.new) }
     ensures maps { OnOk result (KeepsMaps table.old.maps table.new.maps) }
-    ensures grows { OnOk result (Grows table.old table.new) }
+    ensures step { IfOk result (IsStep table.old table.new) }
     ensures joined { OnOk result (IsJoined w.now table.old table.new m t) }
 {
-    let own = table.list(alloc, m)?;
-    table.begin(m, t)?;
-    for entry in &own {
-        add(m, entry.0, table)?;
+    if !lacks_row(alloc, m, t, table)? {
+        return Ok(false);
     }
-    Ok(())
+    table.unite(m, t)?;
+    Ok(true)
+}
+
+/// Whether the row of `m` lacks `t`, or something but `m` that the row of `t` has.
+fn lacks_row(alloc: Global, m: u32, t: u32, table: &Table) -> Result<bool, NoMemory>
+    ensures lacks { IfOk result (λ r. IsTrue r → Lacks table.now m t) }
+    ensures whole { IfOk result (λ r. r ≡ false → HasRow table.now m t) }
+{
+    if table.get(m, t).is_none() {
+        return Ok(true);
+    }
+    let entries = table.list(alloc, t)?;
+    let found = lacks_entry(m, entries.as_slice(), table);
+    Ok(found)
+}
+
+/// Whether the row of `m` lacks a key of the entries, other than `m`.
+fn lacks_entry(m: u32, entries: &[(u32, u32)], table: &Table) -> bool
+    ensures lacks { IsTrue result → (p : ℕ × ℕ) × Contains entries.now p × (m ≡ p.0 → ⊥) × (Has table.now m p.0 → ⊥) }
+    ensures whole { result ≡ false → (p : ℕ × ℕ) → Contains entries.now p → (m ≡ p.0 → ⊥) → Has table.now m p.0 }
+{
+    for entry in entries {
+        if lacks_key(m, entry.0, table) {
+            return true;
+        }
+    }
+    false
+}
+
+/// Whether the row of `m` lacks a key, other than `m`.
+fn lacks_key(m: u32, k: u32, table: &Table) -> bool
+    ensures lacks { IsTrue result → (m ≡ k → ⊥) × (Has table.now m k → ⊥) }
+    ensures has { result ≡ false → (m ≡ k → ⊥) → Has table.now m k }
+{
+    if m == k {
+        return false;
+    }
+    table.get(m, k).is_none()
 }
 
 fn add(m: u32, k: u32, table: &mut Table) -> Result<bool, NoMemory>
@@ -176,38 +211,17 @@ fn add(m: u32, k: u32, table: &mut Table) -> Result<bool, NoMemory>
 }
 
 /// Adds that `m` overrides `k`, which a method overrides that `m` overrides at once; unless they are one, or differ in a type below both.
-fn add_third(
-    alloc: Global,
-    w: &World,
-    m: u32,
-    k: u32,
-    free: bool,
-    table: &mut Table,
-) -> Result<bool, NoMemory>
+fn add_third(alloc: Global, w: &World, m: u32, k: u32, table: &mut Table) -> Result<bool, NoMemory>
     requires sound { IsSound w.now }
     requires through { (m ≡ k → ⊥) → AgreeBelow w.now m k → Overriding w.now m k }
-    requires free { IsTrue free → AgreeBelow w.now m k }
     requires table { IsDerived w.now table.old }
     ensures table { OnOk result (IsDerived w.now table.new) }
     ensures maps { OnOk result (KeepsMaps table.old.maps table.new.maps) }
     ensures step { IfOk result (IsStep table.old table.new) }
     ensures has { OnOk result ((m ≡ k → ⊥) → AgreeBelow w.now m k → Has table.new m k) }
 {
-    if m == k || table.get(m, k).is_some() || !agree(alloc, w, m, k, free)? {
+    if m == k || table.get(m, k).is_some() || !agree_below(alloc, w, m, k)? {
         return Ok(false);
     }
     add(m, k, table)
-}
-
-/// Whether two methods have one signature in each type below both; asked only where that is not known.
-fn agree(alloc: Global, w: &World, m: u32, k: u32, known: bool) -> Result<bool, NoMemory>
-    requires sound { IsSound w.now }
-    requires known { IsTrue known → AgreeBelow w.now m k }
-    ensures { IfOk result (λ r. IsTrue r ↔ AgreeBelow w.now m k) }
-{
-    if known {
-        Ok(true)
-    } else {
-        agree_below(alloc, w, m, k)
-    }
 }

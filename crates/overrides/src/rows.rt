@@ -1,8 +1,8 @@
 //! A table of numbers by two numbers, whose rows share what they have in common.
 
-ghost use Rattle.std.specs.Prelude.{◌≡◌, ℕ, ◌<◌, None, length, IfOk, OnOk};
+ghost use Rattle.std.specs.Prelude.{◌≡◌, ◌==◌, ℕ, ◌<◌, None, if◌then◌else◌, length, IfOk, OnOk};
 ghost use Rattle.shared_maps.specs.Maps.{AreEntries, IsMap, KeepsMaps, value_in};
-ghost use Rattle.overrides.specs.Tables.{AreOfOneSize, IsBegun, IsOfSize, IsWritten, value_at};
+ghost use Rattle.overrides.specs.Tables.{AreOfOneSize, IsOfSize, IsUnited, IsWritten, value_at};
 
 use java_tree::NoMemory;
 use shared_maps::{Map, SharedMaps};
@@ -14,8 +14,6 @@ use std::marker::Model;
 pub(crate) struct Table {
     maps: SharedMaps,
     rows: Vec<Map>,
-    // About how many keys each row has. It says only which of two rows is the one to go through.
-    sizes: Vec<u32>,
 }
 
 impl Model for Table {
@@ -36,8 +34,7 @@ impl Table {
     {
         let maps = SharedMaps::new(alloc, size)?;
         let rows = vec![in alloc; maps.empty(); size as usize]?;
-        let sizes = vec![in alloc; 0; size as usize]?;
-        Ok(Table { maps, rows, sizes })
+        Ok(Table { maps, rows })
     }
 
     pub(crate) fn get(&self, m: u32, k: u32) -> Option<u32>
@@ -60,11 +57,6 @@ impl Table {
         }
     }
 
-    /// Whether the row `m` has no more keys than that of `t`, about.
-    pub(crate) fn is_no_longer(&self, m: u32, t: u32) -> bool {
-        size_of(&self.sizes, m) <= size_of(&self.sizes, t)
-    }
-
     /// The keys of a row with their values, ascending.
     pub(crate) fn list(&self, alloc: Global, m: u32) -> Result<Vec<(u32, u32)>, NoMemory>
         ensures { IfOk result (λ v. AreEntries (value_at self.now m) v.items) }
@@ -83,38 +75,35 @@ impl Table {
         ensures written { OnOk result (IsWritten self.old self.new m k value) }
     {
         self.rows[m as usize] = self.maps.put(self.rows[m as usize], k, Some(value))?;
-        let size = size_of(&self.sizes, m);
-        put_size(&mut self.sizes, m, size.saturating_add(1));
         Ok(())
     }
 
-    /// Lets the row `m` begin as that of `t`, without the key `m` and with the key `t`. Takes the memory of two keys, however long the row is.
-    pub(crate) fn begin(&mut self, m: u32, t: u32) -> Result<(), NoMemory>
+    /// Adds the key `t` to the row `m`, and what the row of `t` has, but for the key `m`. Takes time and memory for the nodes that the two rows do not share, and for two keys.
+    pub(crate) fn unite(&mut self, m: u32, t: u32) -> Result<(), NoMemory>
         requires row { m < length self.old.rows }
         requires other { t < length self.old.rows }
         requires key { t < self.old.maps.keys }
         requires itself { m < self.old.maps.keys }
         ensures size { OnOk result (AreOfOneSize self.old self.new) }
         ensures maps { OnOk result (KeepsMaps self.old.maps self.new.maps) }
-        ensures begun { OnOk result (IsBegun self.old self.new m t) }
+        ensures united { OnOk result (IsUnited self.old self.new m t) }
     {
-        let rest = self.maps.put(self.rows[t as usize], m, None)?;
-        self.rows[m as usize] = self.maps.put(rest, t, Some(0))?;
-        let size = size_of(&self.sizes, t);
-        put_size(&mut self.sizes, m, size.saturating_add(1));
+        let above = without(&mut self.maps, self.rows[t as usize], m)?;
+        let both = self.maps.union(self.rows[m as usize], above)?;
+        self.rows[m as usize] = self.maps.put(both, t, Some(0))?;
         Ok(())
     }
 }
 
-fn size_of(sizes: &[u32], m: u32) -> u32 {
-    match sizes.get(m as usize) {
-        Some(size) => *size,
-        None => 0,
+/// The map without a key. Takes no memory where the key is not there.
+fn without(maps: &mut SharedMaps, map: Map, key: u32) -> Result<Map, NoMemory>
+    requires { IsMap maps.old map }
+    ensures map { IfOk result (IsMap maps.new) }
+    ensures value { IfOk result (λ r. (k : ℕ) → k < maps.old.keys → value_in maps.new r k ≡ (if k == key then None else value_in maps.old map k)) }
+    ensures kept { KeepsMaps maps.old maps.new }
+{
+    if maps.get(map, key).is_none() {
+        return Ok(map);
     }
-}
-
-fn put_size(sizes: &mut [u32], m: u32, size: u32) {
-    if let Some(place) = sizes.get_mut(m as usize) {
-        *place = size;
-    }
+    maps.put(map, key, None)
 }

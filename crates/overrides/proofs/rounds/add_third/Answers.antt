@@ -5,7 +5,7 @@ use Rattle.overrides.proofs.rounds.add_third.Goals as goal
 use Rattle.overrides.proofs.rounds.add_third.Goals.{Else-not-branch}
 
 up : (c : Else-not-branch) → Overriding c.args.w.now c.args.m c.args.k
-up c = c.requires.through c.if-m-k.false (c.in_ok-agree.ensures.0 c.if-not-branch.false)
+up c = c.requires.through c.if-m-k.false (c.in_ok-agree_below.ensures.0 c.if-not-branch.false)
 
 pub add-requires-clause-row : goal.add-requires-clause-row
 add-requires-clause-row c = derived_row c.args.w.now c.args.table.now c.args.m c.args.k c.requires.table (up ((goal.at.add-requires-clause-row c).Else-not-branch))

@@ -1,4 +1,4 @@
-use Rattle.std.proofs.Common.{◌≡◌, ℕ, None, sym, subst, get_or, arith}
+use Rattle.std.proofs.Common.{ℕ, sym, subst, get_or, arith}
 use Rattle.std.specs.List.{Contains}
 use Rattle.std.proofs.lemmas.Option.{slice_get-get_or}
 use Rattle.std.proofs.lemmas.List.Elements.{Contains-get_or}
@@ -8,7 +8,7 @@ use Rattle.class_world.specs.Overriding as by
 use Rattle.class_world.specs.Overriding.{Overriding}
 use Rattle.overrides.specs.Tables.{value_at}
 use Rattle.overrides.specs.Rounds.{IsDerived, IsStep}
-use Rattle.overrides.proofs.Places.{items_more, items_all, absent}
+use Rattle.overrides.proofs.Places.{items_more, items_all}
 use Rattle.overrides.proofs.Gains.{HasThird, added_derived, derived_row, derived_key, step_on, step_still, third_on}
 use Rattle.overrides.proofs.rounds.add_through.Goals as goal
 use Rattle.overrides.proofs.rounds.add_through.Goals.{After-deref-entry-items, then-branch, else-branch}
@@ -30,8 +30,8 @@ add-requires-clause-row c = derived_row c.args.w.now c.args.table.now c.args.m c
 pub add-requires-clause-key : goal.add-requires-clause-key
 add-requires-clause-key c = derived_key c.args.w.now c.args.table.now c.args.m c.args.t c.requires.table (by.at_once c.requires.at_once)
 
-pub begin_again-requires-clause-free : goal.begin_again-requires-clause-free
-begin_again-requires-clause-free c = c.requires.free c.if-free.true
+pub add_row-requires-clause-free : goal.add_row-requires-clause-free
+add_row-requires-clause-free c = c.requires.free c.if-free.true
 
 pub loop-entry-init : goal.loop-entry-init
 loop-entry-init c = record {
@@ -47,12 +47,6 @@ add_third-requires-clause-through c other agree =
     let entries = c.deref-entry-items.result.now in
     let up = above ((goal.at.add_third-requires-clause-through c).After-deref-entry-items) (get_or entries c.loop-entry.entry-index (0, 0)) (Contains-get_or entries c.loop-entry.entry-index (0, 0) c.loop-entry-test.true) in
     by.through c.requires.at_once up other agree
-
-pub add_third-requires-clause-free : goal.add_third-requires-clause-free
-add_third-requires-clause-free c free =
-    let entries = c.deref-entry-items.result.now in
-    let p = get_or entries c.loop-entry.entry-index (0, 0) in
-    c.requires.free free p.0 (above ((goal.at.add_third-requires-clause-free c).After-deref-entry-items) p (Contains-get_or entries c.loop-entry.entry-index (0, 0) c.loop-entry-test.true))
 
 pub loop-entry-preserved : goal.loop-entry-preserved
 loop-entry-preserved c =
@@ -75,22 +69,6 @@ loop-entry-preserved c =
       ];
       has = added.step.grows m c.args.t h.has;
       thirds = items_more {A = ℕ × ℕ} (HasThird w m new) entries i p (λ j q lt is. third_on w m c.loop-entry.table new q added.step.grows (h.thirds j q lt is)) at added.has;
-    }
-
-pub returns-then-is_none-clause-step : goal.returns-then-is_none-clause-step
-returns-then-is_none-clause-step c =
-    let begun = c.in_ok-begin_again.ensures in
-    record {
-      grows = begun.grows;
-      gains = λ e. (
-        c.args.m,
-        c.args.t,
-        λ had.
-            let none : value_at c.args.table.now c.args.m c.args.t ≡ None = absent c.get.result (value_at c.args.table.now c.args.m c.args.t) c.is_none.result c.get.ensures c.is_none.ensures c.if-is_none.true in
-            absurd (cc (none, had.1)),
-        begun.joined.has,
-      );
-      same = λ e. absurd (cc e);
     }
 
 pub returns-clause-joined : goal.returns-clause-joined
