@@ -1,7 +1,8 @@
 -- A class more is done.
-use Rattle.std.proofs.Common.{◌≡◌, ℕ, ◌+◌, ◌<◌, true, false, List, ◌⊎◌, inl, inr, ◌↔◌, refl, ap, ◌∙◌, subst, length, get_or, take}
+use Rattle.std.proofs.Common.{◌≡◌, ℕ, ◌<◌, true, false, List, [], ◌∷◌, ◌++◌, ◌⊎◌, inl, inr, ◌↔◌, sym, ap, ◌∙◌, subst, length, get_or}
 use Rattle.std.specs.Prelude.{slice_get, slice_set, Contains}
 use Rattle.std.specs.List.{fold}
+use Rattle.std.proofs.lemmas.List.Elements.{Contains-append_left, Contains-append_right, Contains-append_cases}
 use Rattle.std.proofs.lemmas.Option.{slice_get_within, slice_get-get_or}
 use Rattle.shared_maps.specs.declared.Map.{Map}
 use Rattle.shared_maps.specs.Trees.{Memory}
@@ -14,10 +15,10 @@ use Rattle.member_fields.specs.Own.{Owns}
 use Rattle.member_fields.specs.Values.{Changes, joined, with_at, without_at}
 use Rattle.member_fields.specs.Sums.{HandsDown, HasMap, HasMember, IsHanded, IsHandedBy, Sums}
 use Rattle.member_fields.specs.Built.{Grows, IsDone, IsSized}
-use Rattle.member_fields.proofs.Lists.{next_contained}
+use Rattle.member_fields.proofs.Lists.{contains_first, front_cases, none_contained}
 use Rattle.member_fields.proofs.Meanings.{IsKeptBut, joined_sums, same_sums, with_sums, without_sums}
 use Rattle.member_fields.proofs.Members.{members_are, handed_are}
-use Rattle.member_fields.proofs.Steps.{has_kept, sums_changed}
+use Rattle.member_fields.proofs.Steps.{has_kept, sums_changed, sums_kept}
 
 pub sums_alike : {m : Memory} {P Q : ℕ → ℕ → Type 0} {map : Map} → ((n f : ℕ) → P n f ↔ Q n f) → Sums m P map → Sums m Q map
 sums_alike {m} {P} {Q} {map} alike h = record { is_map = h.is_map; sums = λ n below. same_sums (value_in m map n) (alike n) (h.sums n below) }
@@ -31,21 +32,26 @@ handed_map w maps handed s d h =
     let is : h.0 ≡ get_or handed s d = let found = h.1 in let read = slice_get-get_or handed s d lt in cc (found, read) in
     (lt, subst (Sums maps (HandsDown w s)) is h.2)
 
-pub merged_next : (w : World) (now new : Memory) (classes : List ℕ) (i : ℕ) (map b r : Map) → i < length classes → Sums now (IsHandedBy w (take i classes)) map → Sums now (HandsDown w (get_or classes i 0)) b
-    → Changes now new map (λ k v. joined v (value_in now b k)) r → Sums new (IsHandedBy w (take (i + 1) classes)) r
-merged_next w now new classes i map b r lt before this changes =
-    sums_changed (λ k v. joined v (value_in now b k)) changes before (λ n v below h.
-    same_sums (joined v (value_in now b n)) (λ f. (to n f, back n f)) (joined_sums (IsHandedBy w (take i classes) n) (HandsDown w (get_or classes i 0) n) v (value_in now b n) h (this.sums n below)))
-  where
-    to : (n f : ℕ) → IsHandedBy w (take i classes) n f ⊎ HandsDown w (get_or classes i 0) n f → IsHandedBy w (take (i + 1) classes) n f
-    to n f (inl old) = (old.0, (next_contained classes i 0 old.0 lt).1 (inl old.1), old.2)
-    to n f (inr new) = (get_or classes i 0, (next_contained classes i 0 (get_or classes i 0) lt).1 (inr refl), new)
+-- one class alone
+pub alone : (w : World) (maps : Memory) (classes : List ℕ) (s : ℕ) (map : Map) → classes ≡ s ∷ [] → Sums maps (HandsDown w s) map → Sums maps (IsHandedBy w classes) map
+alone w maps classes s map is = sums_alike (λ n f. (
+  λ h. (s, subst (λ l. Contains l s) (sym is) (contains_first s []), h),
+  λ h. elim (front_cases s [] h.0 (subst (λ l. Contains l h.0) is h.1)) [ inl same ↦ subst (λ c. HandsDown w c n f) same h.2 | inr none ↦ absurd (none_contained h.0 none) ],
+))
 
-    back : (n f : ℕ) → IsHandedBy w (take (i + 1) classes) n f → IsHandedBy w (take i classes) n f ⊎ HandsDown w (get_or classes i 0) n f
-    back n f h = elim ((next_contained classes i 0 h.0 lt).0 h.1) [
-      | inl old ↦ inl (h.0, old, h.2)
-      | inr is ↦ inr (subst (λ s. HandsDown w s n f) is h.2)
-    ]
+-- both halves
+pub merged_halves : (w : World) (one two new : Memory) (classes left right : List ℕ) (a b r : Map) → classes ≡ left ++ right → KeepsMaps one two → Sums one (IsHandedBy w left) a
+    → Sums two (IsHandedBy w right) b → Changes two new a (λ k v. joined v (value_in two b k)) r → Sums new (IsHandedBy w classes) r
+merged_halves w one two new classes left right a b r is kept first second changes =
+    sums_changed (λ k v. joined v (value_in two b k)) changes (sums_kept kept first) (λ n v below h.
+    same_sums (joined v (value_in two b n)) (λ f. (to n f, back n f)) (joined_sums (IsHandedBy w left n) (IsHandedBy w right n) v (value_in two b n) h (second.sums n below)))
+  where
+    to : (n f : ℕ) → IsHandedBy w left n f ⊎ IsHandedBy w right n f → IsHandedBy w classes n f
+    to n f (inl h) = (h.0, subst (λ l. Contains l h.0) (sym is) (Contains-append_left left right h.0 h.1), h.2)
+    to n f (inr h) = (h.0, subst (λ l. Contains l h.0) (sym is) (Contains-append_right left right h.0 h.1), h.2)
+
+    back : (n f : ℕ) → IsHandedBy w classes n f → IsHandedBy w left n f ⊎ IsHandedBy w right n f
+    back n f h = elim (Contains-append_cases left right h.0 (subst (λ l. Contains l h.0) is h.1)) [ inl x ↦ inl (h.0, x, h.2) | inr x ↦ inr (h.0, x, h.2) ]
 
 -- ---- a class
 

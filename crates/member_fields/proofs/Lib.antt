@@ -1,4 +1,5 @@
 pub mod Adding
+pub mod Halves
 pub mod Heights
 pub mod Lists
 pub mod Meanings

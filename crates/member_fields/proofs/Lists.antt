@@ -1,7 +1,6 @@
 -- Elements of lists.
-use Rattle.std.proofs.Common.{◌≡◌, ℕ, ◌+◌, ◌<◌, zero, suc, List, [], ◌∷◌, ◌++◌, Some, ◌⊎◌, inl, inr, ◌↔◌, refl, sym, ap, ◌∙◌, subst, length, get_or, take, arith}
+use Rattle.std.proofs.Common.{◌≡◌, ℕ, ◌+◌, ◌<◌, zero, suc, List, [], ◌∷◌, ◌++◌, Some, ◌⊎◌, inl, inr, ◌↔◌, refl, sym, ap, ◌∙◌, subst, length, arith}
 use Rattle.std.specs.Prelude.{slice_get, Contains}
-use Rattle.std.proofs.lemmas.List.{take_more}
 use Rattle.std.proofs.lemmas.List.Elements.{Contains-push, Contains-push_cases, Contains-append_left}
 use Rattle.std.proofs.lemmas.Option.{slice_get_within, slice_get-get_or, get_or_from_slice_get}
 
@@ -34,9 +33,6 @@ last_contained xs x a = (
   λ h. elim (Contains-push_cases xs x a h) [ inl old ↦ inl old | inr is ↦ inr (sym is) ],
   λ h. elim h [ inl old ↦ Contains-append_left xs (x ∷ []) a old | inr is ↦ subst (Contains (xs ++ x ∷ [])) (sym is) (Contains-push xs x) ],
 )
-
-pub next_contained : {A : Type 0} (xs : List A) (i : ℕ) (d a : A) → i < length xs → Contains (take (i + 1) xs) a ↔ (Contains (take i xs) a ⊎ (a ≡ get_or xs i d))
-next_contained xs i d a lt = subst (λ ys. Contains ys a ↔ (Contains (take i xs) a ⊎ (a ≡ get_or xs i d))) (sym (take_more xs i d lt)) (last_contained (take i xs) (get_or xs i d) a)
 
 -- places
 

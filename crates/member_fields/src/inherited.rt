@@ -14,6 +14,8 @@ use shared_maps::{Map, SharedMaps};
 use std::alloc::Global;
 
 /// The map of the fields that the classes directly above a class hand down. `handed` has what each of them hands down, by its number.
+///
+/// Takes time for what each of them does not share with all others, times how often their number can be halved.
 pub(crate) fn inherited(
     alloc: Global,
     maps: &mut SharedMaps,
@@ -31,6 +33,8 @@ pub(crate) fn inherited(
 }
 
 /// The map of what these classes hand down.
+///
+/// They are halved, so that what one of them alone has is looked at only as often as their number can be halved.
 fn merged_all(
     alloc: Global,
     maps: &mut SharedMaps,
@@ -42,11 +46,16 @@ fn merged_all(
     ensures sums { IfOk result (λ r. Sums maps.new (IsHandedBy w.now classes.now) r) }
     ensures kept { IfOk result (λ _. KeepsMaps maps.old maps.new) }
 {
-    let mut map = maps.empty();
-    for s in classes {
-        map = merged(alloc, maps, map, handed[*s as usize])?;
+    let Some((first, others)) = classes.split_first() else {
+        return Ok(maps.empty());
+    };
+    if others.is_empty() {
+        return Ok(handed[*first as usize]);
     }
-    Ok(map)
+    let (left, right) = classes.split_at(classes.len() - classes.len() / 2);
+    let map = merged_all(alloc, maps, w, handed, left)?;
+    let more = merged_all(alloc, maps, w, handed, right)?;
+    merged(alloc, maps, map, more)
 }
 
 /// The classes directly above a class.

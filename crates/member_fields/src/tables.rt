@@ -24,7 +24,7 @@ pub struct FieldTable {
 impl FieldTable {
     /// The table of a world. `NoMemory` also where it has 2^32 - 1 fields or more, or a name of that number.
     ///
-    /// Takes time for the types, their fields and, for each of several types directly above one, the names that it and those before it do not share; each times the bits of the largest name.
+    /// Takes time for the types, their fields and, for each of several types directly above one, the names that it does not share with all others, times how often their number can be halved; all times the bits of the largest name.
     pub fn of(alloc: Global, w: &World) -> Result<FieldTable, NoMemory>
         requires sound { IsSound w.now }
         ensures { IfOk result (λ t. HoldsFields w.now t) }
