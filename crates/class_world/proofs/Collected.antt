@@ -1,6 +1,6 @@
 -- A class's row, from the rows of its declared supertypes.
 use Rattle.std.proofs.Common.{◌≡◌, ℕ, ◌+◌, ◌/◌, ◌<◌, ◌≤◌, zero, suc, List, [], Some, ◌⊎◌, ◌↔◌, inl, inr, refl, sym, ap, ◌∙◌, subst, length, arith}
-use Rattle.std.specs.Prelude.{slice_get, slice_index_or as get_or}
+use Rattle.std.specs.Prelude.{slice_get, slice_index_or as get_or, IfSome}
 use Rattle.std.proofs.lemmas.Option.{slice_get_read, slice_get_within}
 use Rattle.class_world.specs.declared.world.World.{World}
 use Rattle.class_world.specs.declared.world.TypeInfo.{TypeInfo}
@@ -9,7 +9,7 @@ use Rattle.class_world.specs.declared.world.JavaType.{JavaType}
 use Rattle.class_world.specs.declared.world.JavaType.TheVariants as ty
 use Rattle.class_world.specs.Types.{erased, variables, with_own, of_class}
 use Rattle.class_world.specs.Subtypes.{Subtype, through, declared, object, raw, IsDeclaredSuper, Parameterizes}
-use Rattle.class_world.specs.Sound.{AreSupers, HaveClassSupers, IsSuper, IsSet, IsRow}
+use Rattle.class_world.specs.Sound.{AreSupers, HaveClassSupers, IsSuper, IsSet, IsShortcut, IsRow}
 use Rattle.class_world.specs.Climbs.{HasBase, IsGeneric, MarkGeneric}
 use Rattle.class_world.specs.Merged.{Sets, AreWithin, HaveRows, AmongFirst}
 use Rattle.class_world.proofs.Forms.{same_class}
@@ -259,8 +259,9 @@ module _ (w : World) (sound : AreSupers w) where
         none (suc n) some = absurd (some (omega arith))
 
 pub row_of_parts : (w : World) (c n : ℕ) (a : Above) (words bits : List ℕ) → a.types ≡ words → a.raw_bases ≡ bits → ((g : ℕ) → IsSet words g ↔ Subtype w (with_own c n) (ty.Class g []))
-    → (0 < n → (g : ℕ) → IsSet bits g ↔ HasBase w (ty.Class c []) g) → IsRow w c n a
-row_of_parts w c n a words bits e f types bases = record {
+    → (0 < n → (g : ℕ) → IsSet bits g ↔ HasBase w (ty.Class c []) g) → IfSome a.shortcut (λ t. IsShortcut w c n t) → IsRow w c n a
+row_of_parts w c n a words bits e f types bases shortcut = record {
   types = subst (λ ws. (g : ℕ) → IsSet ws g ↔ Subtype w (with_own c n) (ty.Class g [])) (sym e) types;
   raw_bases = λ some. subst (λ ws. (g : ℕ) → IsSet ws g ↔ HasBase w (ty.Class c []) g) (sym f) (bases some);
+  shortcut = shortcut;
 }

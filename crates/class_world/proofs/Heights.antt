@@ -10,15 +10,15 @@ use Rattle.class_world.specs.declared.world.Above.{Above}
 use Rattle.class_world.specs.declared.world.JavaType.{JavaType, out-JavaType}
 use Rattle.class_world.specs.declared.world.JavaType.TheVariants as ty
 use Rattle.class_world.specs.declared.world.JavaType.TheOpen as f
-use Rattle.class_world.specs.Types.{variables}
+use Rattle.class_world.specs.Types.{variables, IsTypeOver}
 use Rattle.class_world.specs.Subclasses.{IsDirectSuper}
 use Rattle.class_world.specs.Subtypes.{Subtype, same, through}
 use Rattle.class_world.specs.Sound.{HaveClassSupers, IsSet, IsSound}
-use Rattle.class_world.specs.Climbs.{IsSuperBy}
 use Rattle.class_world.proofs.Forms.{same_class}
-use Rattle.class_world.proofs.Lifts.{bare_alike, bare_declared}
-use Rattle.class_world.proofs.Orders.{class_supers, seen_class}
+use Rattle.class_world.proofs.Lifts.{bare, bare_alike}
+use Rattle.class_world.proofs.Orders.{bare_over, class_above, class_parts, class_supers, object_above, seen_class}
 use Rattle.class_world.proofs.Ranks.{not_above_itself}
+use Rattle.class_world.proofs.Steps.{step_up}
 
 one : Bool → ℕ
 one true = 1
@@ -126,25 +126,33 @@ module _ (w : World) (sound : IsSound w) where
       let row = sound.rows c info at in
       ap (λ o. has_bit (types_in o) g) row.1 ∙ bit_there row.0.types g ((row.2.types g).1 (bare_alike w sups c g [] (variables 0 info.params) up))
 
-  lower_to : (c h : ℕ) (args : List JavaType) → IsDirectSuper w c (ty.Class h args) → height w h < height w c
+  -- no two classes are above each other
+  apart : (c h : ℕ) (info : TypeInfo) → slice_get w.types c ≡ Some info → (h ≡ c → ⊥) → Subtype w (ty.Class c []) (ty.Class h []) → Subtype w (ty.Class h []) (ty.Class c []) → ⊥
+  apart c h info at other up back = elim (step_up w sups (ty.Class c []) (ty.Class h []) up 0 c [] refl (bare_over w 0 c info at)) [
+    | inl own ↦ other (same_class h c [] [] own).0
+    | inr (inl flat) ↦ other (same_class h c [] [] flat).0
+    | inr (inr (inl top)) ↦
+        let zero_is = same_class c 0 [] [] (object_above w sups (ty.Class h []) (ty.Class c []) back top) in
+        other ((same_class h 0 [] [] top).0 ∙ sym zero_is.0)
+    | inr (inr (inr m)) ↦
+        let k = m.1 in
+        let direct : IsDirectSuper w c k.2 = (k.0, k.1, k.3, k.4) in
+        let sup = (sups.supers c k.0 k.2 k.1 direct).1 in
+        let shape = seen_class k.0.params [] k.2 m.0 sup.0 sup.1 sup.2 k.5 in
+        let high : Subtype w (ty.Class sup.0 shape.0) (ty.Class c []) = subst (λ m. Subtype w m (ty.Class c [])) shape.1 (through m.2 back) in
+        not_above_itself w sups sound.rank sound.falls c (sup.0, sup.1, subst (IsDirectSuper w c) sup.2 direct, bare w sups sup.0 c shape.0 [] high)
+  ]
+
+  -- a class above another is further up
+  pub lower : (n c h : ℕ) (xs us : List JavaType) → IsTypeOver w n (ty.Class c xs) → Subtype w (ty.Class c xs) (ty.Class h us) → (h ≡ c → ⊥) → height w h < height w c
   unfolding height
-  lower_to c h args direct =
-      let sup = (sound.declared.supers c direct.0 (ty.Class h args) direct.1 direct).1 in
-      let known : slice_get w.types h ≡ Some sup.2 = subst (λ h. slice_get w.types h ≡ Some sup.2) (sym (same_class h sup.0 args sup.1 sup.3).0) sup.4 in
-      let up : Subtype w (ty.Class c []) (ty.Class h []) = bare_declared w sups c direct.0 (ty.Class h args) direct.2 direct.1 direct.3 h args refl in
+  lower n c h xs us over below other =
+      let mine_is = class_parts w n (ty.Class c xs) c xs over refl in
+      let their_type = (class_above w sups n (ty.Class c xs) (ty.Class h us) below c xs refl over).1 in
+      let theirs_is = class_parts w n (ty.Class h us) h us their_type refl in
+      let up : Subtype w (ty.Class c []) (ty.Class h []) = bare w sups c h xs us below in
       let mine = has_bit (types_in (slice_get w.above c)) in
       let theirs = has_bit (types_in (slice_get w.above h)) in
-      let never : theirs c ≡ true → ⊥ = λ holds. not_above_itself w sups sound.rank sound.falls c (h, args, direct, above_told h sup.2 c known holds) in
-      count_fewer (length w.types) theirs mine (λ g holds. above_there c direct.0 g direct.1 (through up (above_told h sup.2 g known holds))) c (slice_get_within w.types c direct.0 direct.1)
-      (elim (true_or_false (theirs c)) [ inl holds ↦ absurd (never holds) | inr fails ↦ fails ]) (above_there c direct.0 c direct.1 same)
-
-  pub lower : (c h : ℕ) (d : JavaType) → IsDirectSuper w c d → ((g : ℕ) (args : List JavaType) → d ≡ ty.Class g args → h ≡ g) → height w h < height w c
-  lower c h d direct read =
-      let is = (sups.supers c direct.0 d direct.1 direct).1 in
-      subst (λ h. height w h < height w c) (sym (read is.0 is.1 is.2)) (lower_to c is.0 is.1 (subst (IsDirectSuper w c) is.2 direct))
-
-  -- the type to which a declared supertype leads is further up
-  pub lower_by : (k : ℕ) (xs : List JavaType) (at u d : JavaType) → at ≡ ty.Class k xs → IsDirectSuper w k d → IsSuperBy w at d u → height w (number u) < height w (number at)
-  lower_by k xs at u d shape direct by =
-      let read : (g : ℕ) (args : List JavaType) → d ≡ ty.Class g args → number u ≡ g = λ g args e. let up = seen_class by.3.params by.1 d u g args e by.5 in number_class u g up.0 up.1 in
-      subst (λ n. height w (number u) < height w n) (sym (number_class at k xs shape)) (lower k (number u) d direct read)
+      let never : theirs c ≡ true → ⊥ = λ holds. apart c h mine_is.0 mine_is.1 other up (above_told h theirs_is.0 c theirs_is.1 holds) in
+      count_fewer (length w.types) theirs mine (λ g holds. above_there c mine_is.0 g mine_is.1 (through up (above_told h theirs_is.0 g theirs_is.1 holds))) c (slice_get_within w.types c mine_is.0 mine_is.1)
+      (elim (true_or_false (theirs c)) [ inl holds ↦ absurd (never holds) | inr fails ↦ fails ]) (above_there c mine_is.0 c mine_is.1 same)

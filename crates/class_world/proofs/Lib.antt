@@ -20,6 +20,7 @@ pub mod Searches
 pub mod Transports
 pub mod Ranks
 pub mod Bases
+pub mod Leaps
 pub mod Ways
 pub mod Frames
 pub mod Heights

@@ -1,6 +1,6 @@
 -- The order of a world is that of another with the same types, and a world with all rows is sound.
-use Rattle.std.proofs.Common.{◌≡◌, ℕ, ◌+◌, ◌<◌, ◌≤◌, zero, suc, List, [], ◌∷◌, Some, ◌⊎◌, inl, inr, sym, ap, ◌∙◌, subst, length, arith}
-use Rattle.std.specs.Prelude.{slice_get, slice_set}
+use Rattle.std.proofs.Common.{◌≡◌, ℕ, ◌+◌, ◌<◌, ◌≤◌, zero, suc, List, [], ◌∷◌, Option, None, Some, ◌⊎◌, inl, inr, sym, ap, ◌∙◌, subst, length, arith}
+use Rattle.std.specs.Prelude.{slice_get, slice_set, IfSome}
 use Rattle.std.proofs.lemmas.Option.{slice_get_within}
 use Rattle.class_world.specs.declared.world.World.{World}
 use Rattle.class_world.specs.declared.world.TypeInfo.{TypeInfo}
@@ -10,8 +10,8 @@ use Rattle.class_world.specs.declared.world.JavaType.TheVariants as ty
 use Rattle.class_world.specs.Subclasses.{IsDirectSuper}
 use Rattle.class_world.specs.Types.{IsTypeOver, a_primitive, the_null, a_class, a_variable, an_array}
 use Rattle.class_world.specs.Subtypes.{Subtype, same, through, declared, object, raw, null, arrays, char_int, int_long}
-use Rattle.class_world.specs.Sound.{AreSupers, IsRow, IsSound}
-use Rattle.class_world.specs.Merged.{HasRow}
+use Rattle.class_world.specs.Sound.{AreSupers, IsRow, IsShortcut, IsSound, IsSuper}
+use Rattle.class_world.specs.Merged.{HasRow, HaveShortcuts}
 use Rattle.class_world.specs.Sequences.{IsSequence}
 use Rattle.class_world.specs.Ordered.{IsSingleClass}
 use Rattle.class_world.proofs.Words.{set_here, set_there, same_or_other}
@@ -29,6 +29,20 @@ row_kept w rows c g info row at is lt has = elim (same_or_other c g) [
   | inl e ↦ subst (HasRow w (slice_set rows c row)) e (row_written w rows c info row at is lt)
   | inr other ↦ λ i there. let h = has i there in (h.0, set_there rows c g row other ∙ h.1, h.2)
 ]
+
+pub shortcuts_written : (w : World) (rows : List Above) (c : ℕ) (info : TypeInfo) (row : Above) → slice_get w.types c ≡ Some info → IsRow w c info.params row → c < length rows
+    → HaveShortcuts w rows → HaveShortcuts w (slice_set rows c row)
+shortcuts_written w rows c info row at is lt have k i a at' there = elim (same_or_other c k) [
+  | inl e ↦
+      let alike : info ≡ i = cc (at, ap (slice_get w.types) e ∙ at') in
+      let same_row : row ≡ a = cc (set_here rows c row lt, ap (slice_get (slice_set rows c row)) e ∙ there) in
+      subst (λ (a : Above). IfSome a.shortcut (λ t. IsShortcut w k i.params t)) same_row
+      (subst (λ (i : TypeInfo). IfSome row.shortcut (λ t. IsShortcut w k i.params t)) alike (subst (λ c. IfSome row.shortcut (λ t. IsShortcut w c info.params t)) e is.shortcut))
+  | inr other ↦ have k i a at' (sym (set_there rows c k row other) ∙ there)
+]
+
+pub shortcuts_none : (w : World) (rows : List Above) → ((c : ℕ) (a : Above) → slice_get rows c ≡ Some a → a.shortcut ≡ None) → HaveShortcuts w rows
+shortcuts_none w rows none c info a at there = subst (λ o. IfSome o (λ t. IsShortcut w c info.params t)) (sym (none c a there)) tt
 
 lower_or_last : (k i : ℕ) → k < i + 1 → (k < i) ⊎ (k ≡ i)
 lower_or_last k i h = grind (arith, h)
@@ -106,13 +120,19 @@ module _ (w v : World) (e : w.types ≡ v.types) where
   over n t (an_array {element = x} some part) = an_array some (over n x part)
 
 module _ (w v : World) (e : w.types ≡ v.types) where
+  super_there : (n : ℕ) (d : JavaType) → IsSuper w n d → IsSuper v n d
+  super_there n d s = (over w v e n d s.0, (s.1.0, s.1.1, s.1.2, s.1.3, known w v e s.1.0 s.1.2 s.1.4, s.1.5))
+
   supers_there : AreSupers w → AreSupers v
   supers_there sup = record {
     top = λ info at. sup.top info (known v w (sym e) 0 info at);
     supers = λ c info d at h.
-        let s = sup.supers c info d (known v w (sym e) c info at) (direct v w (sym e) c d h) in
-        (over w v e info.params d s.0, (s.1.0, s.1.1, s.1.2, s.1.3, known w v e s.1.0 s.1.2 s.1.4, s.1.5));
+        super_there info.params d (sup.supers c info d (known v w (sym e) c info at) (direct v w (sym e) c d h));
   }
+
+  shortcut_there : (c n : ℕ) (o : Option JavaType) → IfSome o (λ t. IsShortcut w c n t) → IfSome o (λ t. IsShortcut v c n t)
+  shortcut_there c n None h = tt
+  shortcut_there c n (Some t) h = (super_there n t h.0, (h.1.0, direct w v e c h.1.0 h.1.1, ordered w v e h.1.0 t h.1.2))
 
   row_there : (c n : ℕ) (a : Above) → IsRow w c n a → IsRow v c n a
   row_there c n a r = record {
@@ -121,6 +141,7 @@ module _ (w v : World) (e : w.types ≡ v.types) where
       λ h. let k = (r.raw_bases some g).0 h in (k.0, k.1, ordered w v e _ _ k.2),
       λ h. (r.raw_bases some g).1 (h.0, h.1, ordered v w (sym e) _ _ h.2),
     );
+    shortcut = shortcut_there c n a.shortcut r.shortcut;
   }
 
   pub sound_there : (listed : List ℕ) (rows : List Above) → AreSupers w → IsSequence w listed → ((c : ℕ) → HasRow w rows c) → ((c : ℕ) → IsSingleClass w c) → v.above ≡ rows → IsSound v

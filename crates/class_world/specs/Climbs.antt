@@ -49,6 +49,12 @@ IsSuperBy w t d u = (c : ℕ) × (xs : List JavaType) × (t ≡ ty.Class c xs) �
 abbrev pub LeadsTo : World → ℕ → Bool → JavaType → ℕ → Type 0
 LeadsTo w c raw d g = (args : List JavaType) (u : JavaType) → IsSaid w c raw args → IsSuperBy w (ty.Class c args) d u → HasBase w u g
 
+-- A type over the variables of the class c, from which a way up goes on: what it is for such types is above them, and of another class.
+abbrev pub IsWayUp : World → ℕ → Bool → JavaType → Type 0
+IsWayUp w c raw d =
+    ((info : TypeInfo) → slice_get w.types c ≡ Some info → IsClassOver w info.params d)
+    × ((args : List JavaType) (u : JavaType) → IsSaid w c raw args → IsSuperBy w (ty.Class c args) d u → Subtype w (ty.Class c args) u × ((xs : List JavaType) → u ≡ ty.Class c xs → ⊥))
+
 -- a class type of the world
 abbrev pub IsClassType : World → JavaType → Type 0
 IsClassType w t = IsOfWorld w t × ((g : ℕ) × (xs : List JavaType) × (t ≡ ty.Class g xs))

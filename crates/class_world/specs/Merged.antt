@@ -1,5 +1,5 @@
 -- What the pieces say from which the table of the order is built.
-use Rattle.std.specs.Prelude.{◌≡◌, ℕ, ◌<◌, ◌≤◌, ◌/◌, Bool, true, false, List, [], ◌∷◌, ◌++◌, Option, None, Some, slice_get, length, ◌↔◌, ◌⊎◌}
+use Rattle.std.specs.Prelude.{◌≡◌, ℕ, ◌<◌, ◌≤◌, ◌/◌, Bool, true, false, List, [], ◌∷◌, ◌++◌, Option, None, Some, slice_get, length, ◌↔◌, ◌⊎◌, IfSome}
 use Rattle.class_world.specs.declared.world.World.{World}
 use Rattle.class_world.specs.declared.world.TypeInfo.{TypeInfo}
 use Rattle.class_world.specs.declared.world.Above.{Above}
@@ -7,7 +7,7 @@ use Rattle.class_world.specs.declared.world.JavaType.{JavaType}
 use Rattle.class_world.specs.declared.world.JavaType.TheVariants as ty
 use Rattle.class_world.specs.Subclasses.{IsDirectSuper}
 use Rattle.class_world.specs.Subtypes.{Subtype, Parameterizes}
-use Rattle.class_world.specs.Sound.{IsSet, IsRow}
+use Rattle.class_world.specs.Sound.{IsSet, IsSuper, IsShortcut, IsRow}
 
 abbrev pub IsListed : List JavaType → JavaType → Type 0
 IsListed ts t = (k : ℕ) × (slice_get ts k ≡ Some t)
@@ -61,6 +61,14 @@ HasRow w rows g = (info : TypeInfo) → slice_get w.types g ≡ Some info → (a
 -- so has the class of each of these types
 abbrev pub HaveRows : World → List Above → List JavaType → Type 0
 HaveRows w rows ts = (k : ℕ) (d : JavaType) → slice_get ts k ≡ Some d → (g : ℕ) (args : List JavaType) → d ≡ ty.Class g args → HasRow w rows g
+
+-- what the rows have of shortcuts are shortcuts
+abbrev pub HaveShortcuts : World → List Above → Type 0
+HaveShortcuts w rows = (c : ℕ) (info : TypeInfo) (a : Above) → slice_get w.types c ≡ Some info → slice_get rows c ≡ Some a → IfSome a.shortcut (λ t. IsShortcut w c info.params t)
+
+-- Over whatever variables s is: t is over them too, not raw where s is not, and above s.
+abbrev pub LeadsUp : World → JavaType → JavaType → Type 0
+LeadsUp w s t = (n : ℕ) → IsSuper w n s → IsSuper w n t × Subtype w s t
 
 -- the fact holds of one of the first i types
 abbrev pub AmongFirst : (JavaType → Type 0) → List JavaType → ℕ → Type 0

@@ -1,5 +1,5 @@
 -- What the questions on the order of types need of a world.
-use Rattle.std.specs.Prelude.{◌≡◌, ℕ, ◌<◌, ◌/◌, ◌%◌, List, [], Some, slice_get, length, ◌↔◌}
+use Rattle.std.specs.Prelude.{◌≡◌, ℕ, ◌<◌, ◌/◌, ◌%◌, List, [], Some, slice_get, length, ◌↔◌, IfSome}
 use Rattle.std.specs.Int.{bit_at}
 use Rattle.class_world.specs.declared.world.World.{World}
 use Rattle.class_world.specs.declared.world.TypeInfo.{TypeInfo}
@@ -21,15 +21,20 @@ IsKnown w c = (info : TypeInfo) × (slice_get w.types c ≡ Some info)
 abbrev pub IsSet : List ℕ → ℕ → Type 0
 IsSet words g = (word : ℕ) × (slice_get words (g / 64) ≡ Some word) × (bit_at word (g % 64) ≡ 1)
 
--- The table's row of a class of n parameters: the classes whose types without arguments are above it, and those of which a parameterization is above its raw type,
--- where it has one.
-pub record IsRow (w : World) (c n : ℕ) (a : Above) : Type 0 where
-  pub types : (g : ℕ) → IsSet a.types g ↔ Subtype w (with_own c n) (ty.Class g [])
-  pub raw_bases : 0 < n → (g : ℕ) → IsSet a.raw_bases g ↔ ((u : JavaType) × Parameterizes g u × Subtype w (ty.Class c []) u)
-
 -- A declared supertype in a class of n parameters: a class type over its variables, and not raw (8.1.4, 8.1.5).
 abbrev pub IsSuper : World → ℕ → JavaType → Type 0
 IsSuper w n d = IsTypeOver w n d × ((g : ℕ) × (args : List JavaType) × (info : TypeInfo) × (d ≡ ty.Class g args) × (slice_get w.types g ≡ Some info) × (length args ≡ info.params))
+
+-- A shortcut of a class of n parameters: of the same form, and one of the declared supertypes of the class, or above one.
+abbrev pub IsShortcut : World → ℕ → ℕ → JavaType → Type 0
+IsShortcut w c n t = IsSuper w n t × ((d : JavaType) × IsDirectSuper w c d × Subtype w d t)
+
+-- The table's row of a class of n parameters: the classes whose types without arguments are above it, those of which a parameterization is above its raw type,
+-- where it has one, and a shortcut, where it has one.
+pub record IsRow (w : World) (c n : ℕ) (a : Above) : Type 0 where
+  pub types : (g : ℕ) → IsSet a.types g ↔ Subtype w (with_own c n) (ty.Class g [])
+  pub raw_bases : 0 < n → (g : ℕ) → IsSet a.raw_bases g ↔ ((u : JavaType) × Parameterizes g u × Subtype w (ty.Class c []) u)
+  pub shortcut : IfSome a.shortcut (λ t. IsShortcut w c n t)
 
 -- What the types declare is in order: Object has no supertype and no parameter, and each declared supertype is one.
 pub record AreSupers (w : World) : Type 0 where

@@ -14,6 +14,7 @@ mod paths;
 mod rows;
 mod seen;
 mod sequence;
+mod shortcuts;
 mod subtypes;
 mod supers;
 mod table;

@@ -1,18 +1,20 @@
 //! Building the table of the order (JLS 3rd edition, 8.1.4 and 8.1.5).
 
-ghost use Rattle.std.specs.Prelude.{◌≡◌, ℕ, ◌<◌, ◌^◌, length, List, IfOk};
+ghost use Rattle.std.specs.Prelude.{◌≡◌, ℕ, ◌<◌, ◌^◌, length, List, None, Some, slice_get, IfOk};
 ghost use Rattle.class_world.specs.Sound.{AreSupers};
 ghost use Rattle.class_world.specs.Climbs.{MarkGeneric};
 ghost use Rattle.class_world.specs.Subclasses.{IsDirectSuper};
-ghost use Rattle.class_world.specs.Merged.{HasRow};
+ghost use Rattle.class_world.specs.Merged.{HasRow, HaveShortcuts};
 ghost use Rattle.class_world.specs.Sequences.{IsSequence};
 ghost use Rattle.class_world.specs.Ordered.{IsOrdered};
+ghost use Rattle.class_world.specs.declared.world.Above.{Above};
 ghost use Rattle.class_world.specs.declared.world.JavaType.{JavaType};
 ghost use Rattle.class_world.specs.declared.world.JavaType.TheVariants as ty;
 
 use crate::below_two::first_doubled;
 use crate::rows::{generic_bits, row};
 use crate::sequence::{Sorted, sort};
+use crate::shortcuts::levels;
 use crate::world::{Above, World};
 use java_tree::{Items, NoMemory};
 use std::alloc::Global;
@@ -55,7 +57,7 @@ pub fn with_order(alloc: Global, w: World) -> Result<Ordered, NoMemory>
     }))
 }
 
-/// The rows of all classes.
+/// The rows of all classes, those of a sequence in which supertypes come first.
 fn fill_rows(alloc: Global, w: &World, listed: &[u32]) -> Result<Vec<Above>, NoMemory>
     requires supers { AreSupers w.now }
     requires few { length w.now.types < 2 ^ 32 }
@@ -63,21 +65,31 @@ fn fill_rows(alloc: Global, w: &World, listed: &[u32]) -> Result<Vec<Above>, NoM
     ensures { IfOk result (λ v. (c : ℕ) → HasRow w.now v.items c) }
 {
     let generic = generic_bits(alloc, w)?;
+    let levels = levels(alloc, w, listed)?;
     let mut rows = empty_rows(alloc, w.types.len())?;
     for c in listed {
-        add_row(alloc, w, generic.as_slice(), &mut rows, *c)?;
+        add_row(
+            alloc,
+            w,
+            generic.as_slice(),
+            levels.as_slice(),
+            &mut rows,
+            *c,
+        )?;
     }
     Ok(rows)
 }
 
 fn empty_rows(alloc: Global, count: usize) -> Result<Vec<Above>, NoMemory>
-    ensures { IfOk result (λ v. length v.items ≡ count) }
+    ensures len { IfOk result (λ v. length v.items ≡ count) }
+    ensures none { IfOk result (λ v. (c : ℕ) (a : Above) → slice_get v.items c ≡ Some a → a.shortcut ≡ None) }
 {
     let mut rows = Vec::new(alloc);
     for _ in 0..count {
         rows.push(Above {
             types: Items::new(alloc),
             raw_bases: Items::new(alloc),
+            shortcut: None,
         })?;
     }
     Ok(rows)
@@ -88,6 +100,7 @@ fn add_row(
     alloc: Global,
     w: &World,
     generic: &[u64],
+    levels: &[u32],
     rows: &mut Vec<Above>,
     c: u32,
 ) -> Result<(), NoMemory>
@@ -96,12 +109,14 @@ fn add_row(
     requires within { c < length w.now.types }
     requires len { length rows.old.items ≡ length w.now.types }
     requires above { (g : ℕ) (args : List JavaType) → IsDirectSuper w.now c (ty.Class g args) → HasRow w.now rows.old.items g }
+    requires shortcuts { HaveShortcuts w.now rows.old.items }
     ensures len { length rows.new.items ≡ length w.now.types }
     ensures kept { (g : ℕ) → HasRow w.now rows.old.items g → HasRow w.now rows.new.items g }
+    ensures shortcuts { HaveShortcuts w.now rows.new.items }
     ensures row { IfOk result (λ r. HasRow w.now rows.new.items c) }
 {
     if let Some(info) = w.types.get(c as usize) {
-        let row = row(alloc, w, generic, rows.as_slice(), c, info)?;
+        let row = row(alloc, w, generic, levels, rows.as_slice(), c, info)?;
         rows[c as usize] = row;
     }
     Ok(())

@@ -5,9 +5,10 @@ ghost use Rattle.class_world.specs.Types.{with_own};
 ghost use Rattle.class_world.specs.Subtypes.{Subtype};
 ghost use Rattle.class_world.specs.Sound.{AreSupers, IsRow, IsSet};
 ghost use Rattle.class_world.specs.Climbs.{HasBase, MarkGeneric};
-ghost use Rattle.class_world.specs.Merged.{HaveRows};
+ghost use Rattle.class_world.specs.Merged.{HaveRows, HaveShortcuts};
 ghost use Rattle.class_world.specs.declared.world.JavaType.TheVariants as ty;
 
+use crate::shortcuts::shortcut;
 use crate::supers::is_generic;
 use crate::table::{class_of, set, set_all, set_both};
 use crate::world::{Above, TypeInfo, World};
@@ -38,11 +39,12 @@ fn mark_generic(w: &World, words: &mut [u64])
     }
 }
 
-/// The row of a class whose declared supertypes' classes have theirs. `generic` has the bits of the generic classes.
+/// The row of a class whose declared supertypes' classes have theirs. `generic` has the bits of the generic classes, `levels` the length of the longest way up from each class.
 pub(crate) fn row(
     alloc: Global,
     w: &World,
     generic: &[u64],
+    levels: &[u32],
     rows: &[Above],
     c: u32,
     info: &TypeInfo,
@@ -51,14 +53,17 @@ pub(crate) fn row(
     requires generic { MarkGeneric w.now generic.now }
     requires known { slice_get w.now.types c ≡ Some info.now }
     requires rows { HaveRows w.now rows.now info.now.supers }
+    requires shortcuts { HaveShortcuts w.now rows.now }
     ensures { IfOk result (λ a. IsRow w.now c info.now.params a) }
 {
     let mut types = vec![in alloc; 0u64; w.types.len() / 64 + 1]?;
     fill(w, rows, c, info, types.as_mut_slice());
     let raw_bases = raw_row(alloc, w, generic, rows, c, info)?;
+    let shortcut = shortcut(alloc, w, levels, rows, c, info)?;
     Ok(Above {
         types: Items::from_vec(types),
         raw_bases: Items::from_vec(raw_bases),
+        shortcut,
     })
 }
 

@@ -16,7 +16,7 @@ use java_tree::tree::Primitive;
 use java_tree::{Items, NoMemory};
 use std::alloc::Global;
 
-/// Whether `s` is a subtype of `t` (JLS 4.10). Where `t` has arguments it goes up from `s`'s class to `t`'s, one supertype at a time, past the declared supertypes of each class on the way.
+/// Whether `s` is a subtype of `t` (JLS 4.10). Where `t` has arguments it goes up from `s`'s class to `t`'s, by shortcuts where these lead there, else past the declared supertypes of a class: mostly in about log n steps past n classes.
 pub fn is_sub(w: &World, s: &JavaType, t: &JavaType) -> bool
     requires sound { IsSound w.now }
     requires types { IsOfWorld w.now s.now × IsOfWorld w.now t.now }
@@ -153,7 +153,7 @@ fn is_raw_alone(w: &World, s: &JavaType, g: u32) -> bool
     }
 }
 
-/// The supertype of `t` whose class is `g`: the parameterization where there is one, else the type without arguments. Goes up from `t`'s class to `g`, with a copy of the type a step.
+/// The supertype of `t` whose class is `g`: the parameterization where there is one, else the type without arguments. Goes up from `t`'s class to `g` by shortcuts where these lead there, with a copy of the type a step: mostly in about log n steps past n classes.
 pub fn super_as(
     alloc: Global,
     w: &World,

@@ -59,11 +59,12 @@ pub struct Walk {
     pub next: u32,
 }
 
-/// What is above a declared class, a bit for a class, by number and 64 to a word. `types` has the classes whose type without arguments is above the class with its own variables, its own included; `raw_bases` those of which a parameterization is above its raw type, where it has parameters.
+/// What is above a declared class, a bit for a class, by number and 64 to a word. `types` has the classes whose type without arguments is above the class with its own variables, its own included; `raw_bases` those of which a parameterization is above its raw type, where it has parameters. `shortcut` is a type far above, over the class's own variables: with it a way up past many classes takes few steps.
 #[derive(Drop)]
 pub struct Above {
     pub types: Items<u64>,
     pub raw_bases: Items<u64>,
+    pub shortcut: Option<JavaType>,
 }
 
 /// All declared types, the built-in ones first, from Object with the number 0; then those of the files in order. `above` is the table of their order, by number; it is empty where nothing asks for it.

@@ -1,6 +1,6 @@
 -- What is said of a world's order, members and walks, of another with the same types and methods.
 use Rattle.std.proofs.Common.{◌≡◌, ℕ, List, Option, None, Some, inl, inr, ap, sym, ◌∙◌}
-use Rattle.std.specs.Prelude.{slice_get}
+use Rattle.std.specs.Prelude.{slice_get, IfSome}
 use Rattle.java_tree.specs.declared.tree.Name.{Name}
 use Rattle.class_world.specs.declared.world.World.{World}
 use Rattle.class_world.specs.declared.world.Walk.{Walk}
@@ -12,7 +12,7 @@ use Rattle.class_world.specs.declared.world.JavaType.TheVariants as ty
 use Rattle.class_world.specs.Subclasses.{IsDirectSuper}
 use Rattle.class_world.specs.Types.{IsTypeOver, a_primitive, the_null, a_class, a_variable, an_array}
 use Rattle.class_world.specs.Subtypes.{Subtype, same, through, declared, object, raw, null, arrays, char_int, int_long}
-use Rattle.class_world.specs.Sound.{AreSupers, IsRow, IsSound}
+use Rattle.class_world.specs.Sound.{AreSupers, IsRow, IsShortcut, IsSound, IsSuper}
 use Rattle.class_world.specs.Signatures.{IsMethod, IsSeenWith, HasParams, HaveOneSignatureIn}
 use Rattle.class_world.specs.Inheritance.{IsDirectlyAbove, DeclaresMethod, IsPrivateMethod, IsMemberMethod}
 use Rattle.class_world.specs.Inheritance as inheritance
@@ -52,13 +52,18 @@ over w v l n t (a_variable lt) = a_variable lt
 over w v l n t (an_array {element = x} some part) = an_array some (over w v l n x part)
 
 module _ (w v : World) (l : AreAlike w v) where
+  super_there : (n : ℕ) (d : JavaType) → IsSuper w n d → IsSuper v n d
+  super_there n d s = (over w v l n d s.0, (s.1.0, s.1.1, s.1.2, s.1.3, known w v l s.1.0 s.1.2 s.1.4, s.1.5))
+
   supers_there : AreSupers w → AreSupers v
   supers_there sup = record {
     top = λ info at. sup.top info (known v w (back w v l) 0 info at);
-    supers = λ c info d at h.
-        let s = sup.supers c info d (known v w (back w v l) c info at) (direct v w (back w v l) c d h) in
-        (over w v l info.params d s.0, (s.1.0, s.1.1, s.1.2, s.1.3, known w v l s.1.0 s.1.2 s.1.4, s.1.5));
+    supers = λ c info d at h. super_there info.params d (sup.supers c info d (known v w (back w v l) c info at) (direct v w (back w v l) c d h));
   }
+
+  shortcut_there : (c n : ℕ) (o : Option JavaType) → IfSome o (λ t. IsShortcut w c n t) → IfSome o (λ t. IsShortcut v c n t)
+  shortcut_there c n None h = tt
+  shortcut_there c n (Some t) h = (super_there n t h.0, (h.1.0, direct w v l c h.1.0 h.1.1, subtype w v l h.1.0 t h.1.2))
 
   row_there : (c n : ℕ) (a : Above) → IsRow w c n a → IsRow v c n a
   row_there c n a r = record {
@@ -67,6 +72,7 @@ module _ (w v : World) (l : AreAlike w v) where
       λ h. let k = (r.raw_bases some g).0 h in (k.0, k.1, subtype w v l _ _ k.2),
       λ h. (r.raw_bases some g).1 (h.0, h.1, subtype v w (back w v l) _ _ h.2),
     );
+    shortcut = shortcut_there c n a.shortcut r.shortcut;
   }
 
   pub sound_there : w.above ≡ v.above → IsSound w → IsSound v

@@ -52,6 +52,14 @@ keeps_grown old maps lists kept grows = record {
 pub map_says : (old new : Tables) (map : Map) (P Q : ℕ → ℕ → Type 0) → ((k m : ℕ) → P k m ↔ Q k m) → IsMapOf old new map P → IsMapOf old new map Q
 map_says old new map P Q says h = record { good = h.good; keeps = h.keeps; has = λ k m. (λ x. (says k m).0 ((h.has k m).0 x), λ x. (h.has k m).1 ((says k m).1 x)) }
 
+-- the map, where more was done since
+pub map_later : (old now new : Tables) (map : Map) (P : ℕ → ℕ → Type 0) → IsMapOf old now map P → Keeps now new → IsMapOf old new map P
+map_later old now new map P is keeps = record {
+  good = keeps.good map is.good;
+  keeps = keeps_both old now new is.keeps keeps;
+  has = λ k m. subst (λ l. Contains l m ↔ P k m) (sym (keeps.same map is.good k)) (is.has k m);
+}
+
 -- the map itself, where nothing was done
 pub map_there : (t : Tables) (map : Map) (P : ℕ → ℕ → Type 0) → IsGood t map → ((k m : ℕ) → Contains (listed t map k) m ↔ P k m) → IsMapOf t t map P
 map_there t map P good has = record { good = good; keeps = keeps_same t; has = has }

@@ -1,10 +1,11 @@
 -- The maps of one type, from those of the types directly above it.
-use Rattle.std.proofs.Common.{◌≡◌, ℕ, zero, suc, ◌<◌, List, [], Option, Some, ◌⊎◌, inl, inr, ◌↔◌, map, refl, sym, ap, ◌∙◌, subst, length, arith}
+use Rattle.std.proofs.Common.{◌≡◌, ℕ, zero, suc, ◌<◌, List, [], ◌++◌, Option, Some, ◌⊎◌, inl, inr, ◌↔◌, map, refl, sym, ap, ◌∙◌, subst, length, arith}
 use Rattle.std.specs.Prelude.{slice_get, slice_set, replicate}
 use Rattle.std.specs.List.{Contains}
 use Rattle.std.proofs.lemmas.Bool.{cases_eq}
 use Rattle.std.proofs.lemmas.List.{length-set, length-replicate}
 use Rattle.std.proofs.lemmas.Option.{slice_get_within}
+use Rattle.std.proofs.lemmas.List.Elements.{Contains-append_right, Contains-append_cases}
 use Rattle.java_tree.specs.declared.tree.Name.{Name}
 use Rattle.class_world.specs.declared.world.World.{World}
 use Rattle.class_world.specs.declared.world.TypeInfo.{TypeInfo}
@@ -14,6 +15,7 @@ use Rattle.class_world.specs.Sound.{IsSound}
 use Rattle.class_world.specs.Types.{substitute}
 use Rattle.class_world.specs.Signatures.{IsMethod, HaveOneName, HaveOneSignatureIn}
 use Rattle.class_world.specs.Inheritance.{IsDirectlyAbove, DeclaresMethod, IsMemberMethod, declared, inherited, IsPrivateMethod}
+use Rattle.class_world.specs.Overriding.{IsSuperinterface}
 use Rattle.class_world.proofs.Words.{set_here, set_there}
 use Rattle.class_world.proofs.Substs.{length_map, there_is}
 use Rattle.shared_maps.specs.declared.Map.{Map}
@@ -24,7 +26,7 @@ use Rattle.member_methods.specs.declared.made.Made.{Made}
 use Rattle.member_methods.specs.Keys.{key_of, AreKeys}
 use Rattle.member_methods.specs.Tables.{listed, IsGood, Keeps, IsMapOf}
 use Rattle.member_methods.specs.Own.{IsInGroup, AreGroups}
-use Rattle.member_methods.specs.Made.{IsKeyed, Has, HandsDown, CanInherit, HaveMaps, IsListedIn, Lists, IsWithAll, AreApart, HasMap, IsDone, IsMaking, IsReady}
+use Rattle.member_methods.specs.Made.{IsKeyed, Has, HandsDown, CanInherit, CanInheritFromInterface, HaveMaps, IsListedIn, Lists, IsWithAll, AreApart, HasMap, IsDone, IsMaking, IsReady}
 use Rattle.member_methods.proofs.Maps.{keeps_both}
 
 -- ---- keys
@@ -86,15 +88,17 @@ pub has_made : (t : Tables) (maps more : List Map) (c : ℕ) (map : Map) (P : �
 has_made t maps more c map P lt made good has = record { map = map; at = ap (λ l. slice_get l c) made ∙ set_here maps c map lt; good = good; has = has }
 
 -- the maps of c are made
-module _ (w : World) (keyed : List ℕ) (limit c : ℕ) (old new : Made) (members able handed : Map) (making : IsMaking w keyed limit old) (small : c < limit) (keeps : Keeps old.tables new.tables)
+module _ (w : World) (keyed : List ℕ) (limit c : ℕ) (old new : Made) (members able up handed : Map) (making : IsMaking w keyed limit old) (small : c < limit) (keeps : Keeps old.tables new.tables)
     (are_members : new.members.items ≡ slice_set old.members.items c members) (are_able : new.inheritable.items ≡ slice_set old.inheritable.items c able)
-    (are_handed : new.handed.items ≡ slice_set old.handed.items c handed) (good : IsGood new.tables members) (good_able : IsGood new.tables able) (good' : IsGood new.tables handed)
+    (are_up : new.from_interfaces.items ≡ slice_set old.from_interfaces.items c up) (are_handed : new.handed.items ≡ slice_set old.handed.items c handed) (good : IsGood new.tables members)
+    (good_able : IsGood new.tables able) (good_up : IsGood new.tables up) (good' : IsGood new.tables handed)
     (has : (k m : ℕ) → Contains (listed new.tables members k) m ↔ Has w keyed c k m) (can : (k m : ℕ) → Contains (listed new.tables able k) m ↔ CanInherit w keyed c k m)
-    (hands : (k m : ℕ) → Contains (listed new.tables handed k) m ↔ HandsDown w keyed c k m) where
+    (can_up : (k m : ℕ) → Contains (listed new.tables up k) m ↔ CanInheritFromInterface w keyed c k m) (hands : (k m : ℕ) → Contains (listed new.tables handed k) m ↔ HandsDown w keyed c k m) where
   pub now_done : IsDone w keyed new c
   now_done = record {
     members = has_made new.tables old.members.items new.members.items c members _ (let n = making.members in omega (arith, small, n)) are_members good has;
     inheritable = has_made new.tables old.inheritable.items new.inheritable.items c able _ (let n = making.inheritable in omega (arith, small, n)) are_able good_able can;
+    from_interfaces = has_made new.tables old.from_interfaces.items new.from_interfaces.items c up _ (let n = making.from_interfaces in omega (arith, small, n)) are_up good_up can_up;
     handed = has_made new.tables old.handed.items new.handed.items c handed _ (let n = making.handed in omega (arith, small, n)) are_handed good' hands;
   }
 
@@ -104,6 +108,7 @@ module _ (w : World) (keyed : List ℕ) (limit c : ℕ) (old new : Made) (member
     | inr other ↦ record {
       members = has_kept old.tables new.tables old.members.items new.members.items d _ keeps (ap (λ l. slice_get l d) are_members ∙ set_there old.members.items c d members other) h.members;
       inheritable = has_kept old.tables new.tables old.inheritable.items new.inheritable.items d _ keeps (ap (λ l. slice_get l d) are_able ∙ set_there old.inheritable.items c d able other) h.inheritable;
+      from_interfaces = has_kept old.tables new.tables old.from_interfaces.items new.from_interfaces.items d _ keeps (ap (λ l. slice_get l d) are_up ∙ set_there old.from_interfaces.items c d up other) h.from_interfaces;
       handed = has_kept old.tables new.tables old.handed.items new.handed.items d _ keeps (ap (λ l. slice_get l d) are_handed ∙ set_there old.handed.items c d handed other) h.handed;
     }
   ]
@@ -112,6 +117,7 @@ module _ (w : World) (keyed : List ℕ) (limit c : ℕ) (old new : Made) (member
   still_making = record {
     members = ap length are_members ∙ length-set old.members.items c members ∙ making.members;
     inheritable = ap length are_able ∙ length-set old.inheritable.items c able ∙ making.inheritable;
+    from_interfaces = ap length are_up ∙ length-set old.from_interfaces.items c up ∙ making.from_interfaces;
     handed = ap length are_handed ∙ length-set old.handed.items c handed ∙ making.handed;
     keys = keeps.keys ∙ making.keys;
     good = λ d map at. elim (cases_eq c d) [
@@ -140,6 +146,22 @@ pub lists_later : (t t' : Tables) (map : Map) (P : ℕ → ℕ → Type 0) → K
 lists_later t t' map P keeps good has k m = subst (λ l. Contains l m ↔ P k m) (sym (keeps.same map good k)) (has k m)
 
 -- ---- one type
+
+-- no type is a superinterface of itself
+pub not_itself : (w : World) → IsSound w → (c : ℕ) → IsSuperinterface w c c → ⊥
+not_itself w sound c h = let falls = sound.falls c c h.0.0 h.0.1 in omega (arith, falls)
+
+-- so it is enough to look for it among the others
+pub among_others : (w : World) → IsSound w → (c : ℕ) (interfaces others seen : List ℕ) (able handed inh : Map) → seen ≡ others → ((s : ℕ) → Contains interfaces s ↔ IsSuperinterface w c s)
+    → ((able ≡ handed) × Contains seen c) ⊎ ((able ≡ inh) × (Contains seen c → ⊥)) → ((able ≡ handed) × Contains (interfaces ++ others) c) ⊎ ((able ≡ inh) × (Contains (interfaces ++ others) c → ⊥))
+among_others w sound c interfaces others seen able handed inh is tell (inl x) = inl (x.0, Contains-append_right interfaces others c (subst (λ l. Contains l c) is x.1))
+among_others w sound c interfaces others seen able handed inh is tell (inr x) = inr (
+  x.0,
+  λ h. elim (Contains-append_cases interfaces others c h) [
+    | inl y ↦ not_itself w sound c ((tell c).0 y)
+    | inr y ↦ x.1 (subst (λ l. Contains l c) (sym is) y)
+  ],
+)
 
 -- A type that is above itself is Object, and nothing else is above it.
 alone_above : (w : World) → IsSound w → (c : ℕ) → IsDirectlyAbove w c c → (s : ℕ) → IsDirectlyAbove w c s → s ≡ c
@@ -238,9 +260,10 @@ module _ (w : World) (find : Key → Option ℕ) (keyed : List ℕ) (keys : AreK
       keys_below i g at = let small = group_below i g at in let now = is.keeps.keys in let then' = is'.keeps.keys in omega (arith, small, now, then')
 
       -- the type is done
-      module _ (new : Made) (able handed : Map) (is'' : IsMapOf t' new.tables handed (λ k m. Lists t' mem k m × (IsPrivateMethod w m → ⊥))) (small : c < limit) (sound : IsSound w)
+      module _ (interfaces : List ℕ) (tell : (s : ℕ) → Contains interfaces s ↔ IsSuperinterface w c s) (up : Map) (is_up : IsMapOf made.tables t up (IsListedIn made.tables maps interfaces)) (new : Made)
+          (able handed : Map) (is'' : IsMapOf t' new.tables handed (λ k m. Lists t' mem k m × (IsPrivateMethod w m → ⊥))) (small : c < limit) (sound : IsSound w)
           (choice : ((able ≡ handed) × Contains types c) ⊎ ((able ≡ inh) × (Contains types c → ⊥))) (are_members : new.members.items ≡ slice_set made.members.items c mem)
-          (are_able : new.inheritable.items ≡ slice_set made.inheritable.items c able) (are_handed : new.handed.items ≡ slice_set made.handed.items c handed) where
+          (are_able : new.inheritable.items ≡ slice_set made.inheritable.items c able) (are_up : new.from_interfaces.items ≡ slice_set made.from_interfaces.items c up) (are_handed : new.handed.items ≡ slice_set made.handed.items c handed) where
         keeps : Keeps made.tables new.tables
         keeps = keeps_both made.tables t new.tables is.keeps (keeps_both t t' new.tables is'.keeps is''.keeps)
 
@@ -283,21 +306,37 @@ module _ (w : World) (find : Key → Option ℕ) (keyed : List ℕ) (keys : AreK
           | inr x ↦ subst (λ map. Lists new.tables map k m ↔ CanInherit w keyed c k m) (sym x.0) (of_others x.1 k m)
         ]
 
+        -- what its interfaces hand down
+        can_up : (k m : ℕ) → Lists new.tables up k m ↔ CanInheritFromInterface w keyed c k m
+        can_up = lists_later t new.tables up (CanInheritFromInterface w keyed c) later is_up.good (λ k m. (
+          λ x.
+              let h = (is_up.has k m).0 x in
+              let u = making.only h.0 h.2 k m (ap (λ l. slice_get l h.0) (sym are) ∙ h.3) h.4 in
+              (u.0.0, ((h.0, (tell h.0).0 h.1, u.0.1), u.1)),
+          λ h.
+              let i = h.1.0 in
+              let other : i.0 ≡ c → ⊥ = λ same. not_itself w sound c (subst (IsSuperinterface w c) same i.1) in
+              let d = (ready i.0 (inl i.1.0) other).handed in
+              (is_up.has k m).1 (i.0, (tell i.0).1 i.1, d.map, ap (λ l. slice_get l i.0) are ∙ d.at, (d.has k m).1 ((h.0, i.2), h.1.1)),
+        ))
+
         pub step_done : IsDone w keyed new c
-        step_done = now_done w keyed limit c made new mem able handed making small keeps are_members are_able are_handed (is''.keeps.good mem is'.good) good_able is''.good has can hands
+        step_done = now_done w keyed limit c made new mem able up handed making small keeps are_members are_able are_up are_handed (is''.keeps.good mem is'.good) good_able (later.good up is_up.good) is''.good has can can_up hands
 
         pub step_kept : (d : ℕ) → IsDone w keyed made d → IsDone w keyed new d
-        step_kept = still_done w keyed limit c made new mem able handed making small keeps are_members are_able are_handed (is''.keeps.good mem is'.good) good_able is''.good has can hands
+        step_kept = still_done w keyed limit c made new mem able up handed making small keeps are_members are_able are_up are_handed (is''.keeps.good mem is'.good) good_able (later.good up is_up.good) is''.good has can can_up hands
 
         pub step_making : IsMaking w keyed limit new
-        step_making = still_making w keyed limit c made new mem able handed making small keeps are_members are_able are_handed (is''.keeps.good mem is'.good) good_able is''.good has can hands
+        step_making = still_making w keyed limit c made new mem able up handed making small keeps are_members are_able are_up are_handed (is''.keeps.good mem is'.good) good_able (later.good up is_up.good) is''.good has can can_up hands
 
 -- nothing is made yet
-pub making_none : (w : World) (keyed : List ℕ) (limit : ℕ) (made : Made) (empty : Map) → made.members.items ≡ replicate limit empty → made.inheritable.items ≡ replicate limit empty → made.handed.items ≡ replicate limit empty → made.tables.maps.keys ≡ length keyed
+pub making_none : (w : World) (keyed : List ℕ) (limit : ℕ) (made : Made) (empty : Map) → made.members.items ≡ replicate limit empty → made.inheritable.items ≡ replicate limit empty → made.from_interfaces.items ≡ replicate limit empty
+    → made.handed.items ≡ replicate limit empty → made.tables.maps.keys ≡ length keyed
     → IsGood made.tables empty → ((k : ℕ) → listed made.tables empty k ≡ []) → IsMaking w keyed limit made
-making_none w keyed limit made empty members able handed keys good none = record {
+making_none w keyed limit made empty members able up handed keys good none = record {
   members = ap length members ∙ length-replicate limit empty;
   inheritable = ap length able ∙ length-replicate limit empty;
+  from_interfaces = ap length up ∙ length-replicate limit empty;
   handed = ap length handed ∙ length-replicate limit empty;
   keys = keys;
   good = λ c map at. subst (IsGood made.tables) (sym (only c map at)) good;

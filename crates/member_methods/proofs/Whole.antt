@@ -20,9 +20,9 @@ use Rattle.member_methods.specs.Keys.{key_of, AreKeys}
 use Rattle.member_methods.specs.Lists.{list_at}
 use Rattle.member_methods.specs.Tables.{listed, IsGood}
 use Rattle.member_methods.specs.Own.{IsOwnerLimit}
-use Rattle.member_methods.specs.Made.{CanInherit, Has, IsKeyed, IsDone, IsReady, HasMap}
+use Rattle.member_methods.specs.Made.{CanInherit, CanInheritFromInterface, Has, IsKeyed, IsDone, IsReady, HasMap}
 use Rattle.member_methods.specs.declared.MethodLists.{MethodLists}
-use Rattle.member_methods.specs.Methods.{AreNamed, AreInheritable, AreMembers, HoldsMethods, IsCalled, IsInheritable, listed_by}
+use Rattle.member_methods.specs.Methods.{AreNamed, AreInheritable, IsCalled, IsFromInterface, IsInheritable, IsListedAt, listed_by}
 use Rattle.member_methods.proofs.Firsts.{Among, among_cases}
 
 -- ---- what is ready
@@ -188,33 +188,45 @@ member_keyed : (w : World) (find : Key → Option ℕ) (keyed : List ℕ) → Ar
 member_keyed w find keyed keys c m (declared d) = let key = keys.found m d.0 d.1.0 in (key.0, ((d.0, d.1), key.2))
 member_keyed w find keyed keys c m (inherited above member open' none) = member_keyed w find keyed keys _ m member
 
+-- of the methods of which P says that the type c has them, all
+module _ (w : World) (find : Key → Option ℕ) (keyed : List ℕ) (keys : AreKeys w find keyed) (t : Tables) (maps : List Map) (P : ℕ → ℕ → Type 0) (none_past : (c m : ℕ) → length maps ≤ c → P c m → ⊥)
+    (is_keyed : (c m : ℕ) → P c m → (k : ℕ) × IsKeyed w keyed k m) (each : (d : ℕ) → d < length maps → HasMap t maps d (λ k m. IsKeyed w keyed k m × P d m)) where
+  all_at : (c m : ℕ) → ((map : Map) × (slice_get maps c ≡ Some map) × ((k : ℕ) × Contains (listed t map k) m)) ↔ P c m
+  all_at c m = (
+    λ h.
+        let has = each c (slice_get_within maps c h.0 h.1) in
+        let same : has.map ≡ h.0 = let both : Some has.map ≡ Some h.0 = sym has.at ∙ h.1 in cc both in
+        ((has.has h.2.0 m).0 (subst (λ x. Contains (listed t x h.2.0) m) (sym same) h.2.1)).1,
+    λ there.
+        let key = is_keyed c m there in
+        elim (cases_lt c (length maps)) [
+          | inl lt ↦ let has = each c lt in (has.map, has.at, (key.0, (has.has key.0 m).1 (key.1, there)))
+          | inr ge ↦ absurd (none_past c m ge there)
+        ],
+  )
+
 pub all_listed : (w : World) (find : Key → Option ℕ) (keyed : List ℕ) → AreKeys w find keyed → (t : Tables) (maps : List Map) → IsOwnerLimit w (length maps)
     → ((d : ℕ) → d < length maps → HasMap t maps d (Has w keyed d)) → (c m : ℕ) → ((map : Map) × (slice_get maps c ≡ Some map) × ((k : ℕ) × Contains (listed t map k) m)) ↔ IsMemberMethod w c m
-all_listed w find keyed keys t maps limit each c m = (
-  λ h.
-      let has = each c (slice_get_within maps c h.0 h.1) in
-      let same : has.map ≡ h.0 = let both : Some has.map ≡ Some h.0 = sym has.at ∙ h.1 in cc both in
-      ((has.has h.2.0 m).0 (subst (λ x. Contains (listed t x h.2.0) m) (sym same) h.2.1)).1,
-  λ member.
-      let key = member_keyed w find keyed keys c m member in
-      elim (cases_lt c (length maps)) [
-        | inl lt ↦ let has = each c lt in (has.map, has.at, (key.0, (has.has key.0 m).1 (key.1, member)))
-        | inr ge ↦ absurd (no_member w (length maps) c m limit ge member)
-      ],
-)
+all_listed w find keyed keys t maps limit each =
+    all_at w find keyed keys t maps (IsMemberMethod w) (λ c m past h. no_member w (length maps) c m limit past h) (member_keyed w find keyed keys) each
 
-pub of_map : (w : World) (t : MethodLists) (c : ℕ) (map : Map) (xs : List ℕ) → HoldsMethods w t → slice_get t.members.items c ≡ Some map
-    → ((m : ℕ) → Contains xs m ↔ ((k : ℕ) × Contains (listed t.tables map k) m)) → AreMembers w c xs
-of_map w t c map xs holds at has m = (
-  λ h. (holds.members c m).0 (map, at, (has m).0 h),
-  λ h.
-      let x = (holds.members c m).1 h in
+pub all_from_interfaces : (w : World) (find : Key → Option ℕ) (keyed : List ℕ) → AreKeys w find keyed → (t : Tables) (maps : List Map) → IsOwnerLimit w (length maps)
+    → ((d : ℕ) → d < length maps → HasMap t maps d (CanInheritFromInterface w keyed d)) → (c m : ℕ) → ((map : Map) × (slice_get maps c ≡ Some map) × ((k : ℕ) × Contains (listed t map k) m)) ↔ IsFromInterface w c m
+all_from_interfaces w find keyed keys t maps limit each =
+    all_at w find keyed keys t maps (IsFromInterface w) (λ c m past h. none_above w (length maps) c h.0.0 limit past (inl h.0.1.0)) (λ c m h. member_keyed w find keyed keys h.0.0 m h.0.2) each
+
+-- ---- what is listed at one place
+
+pub of_map : (t : MethodLists) (maps : List Map) (c : ℕ) (map : Map) (m : ℕ) → slice_get maps c ≡ Some map → ((k : ℕ) × Contains (listed t.tables map k) m) ↔ IsListedAt t maps c m
+of_map t maps c map m at = (
+  λ h. (map, at, h),
+  λ x.
       let same : x.0 ≡ map = let both : Some x.0 ≡ Some map = sym x.1 ∙ at in cc both in
-      (has m).1 (x.2.0, subst (λ y. Contains (listed t.tables y x.2.0) m) same x.2.1),
+      (x.2.0, subst (λ y. Contains (listed t.tables y x.2.0) m) same x.2.1),
 )
 
-pub of_no_map : (w : World) (t : MethodLists) (c : ℕ) → HoldsMethods w t → slice_get t.members.items c ≡ None → AreMembers w c []
-of_no_map w t c holds none m = (
+pub of_no_map : (t : MethodLists) (maps : List Map) (c m : ℕ) → slice_get maps c ≡ None → Contains [] m ↔ IsListedAt t maps c m
+of_no_map t maps c m none = (
   λ h. absurd (none_in m h),
-  λ h. let x = (holds.members c m).1 h in let never : None ≡ Some x.0 = sym none ∙ x.1 in absurd (cc never),
+  λ x. let never : None ≡ Some x.0 = sym none ∙ x.1 in absurd (cc never),
 )

@@ -3,6 +3,7 @@ pub mod Lists
 pub mod Tables
 pub mod Own
 pub mod Signed
+pub mod TypesAbove
 pub mod SignatureSets
 pub mod Methods
 pub mod Made

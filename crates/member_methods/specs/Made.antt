@@ -10,7 +10,7 @@ use Rattle.member_methods.specs.declared.tables.Tables.{Tables}
 use Rattle.member_methods.specs.declared.own.Group.{Group}
 use Rattle.member_methods.specs.declared.made.Made.{Made}
 use Rattle.member_methods.specs.Tables.{IsGood, listed}
-use Rattle.member_methods.specs.Methods.{IsInheritable}
+use Rattle.member_methods.specs.Methods.{IsFromInterface, IsInheritable}
 use Rattle.member_methods.specs.Own.{IsOwnerLimit, IsInGroup, IsInFirst, AreSingle}
 
 -- the method has this key's number
@@ -28,6 +28,10 @@ HandsDown w keyed c k m = Has w keyed c k m × (IsPrivateMethod w m → ⊥)
 -- a method with this key that a type directly above c hands down
 abbrev pub CanInherit : World → List ℕ → ℕ → ℕ → ℕ → Type 0
 CanInherit w keyed c k m = IsKeyed w keyed k m × IsInheritable w c m
+
+-- one that a direct superinterface of c hands down
+abbrev pub CanInheritFromInterface : World → List ℕ → ℕ → ℕ → ℕ → Type 0
+CanInheritFromInterface w keyed c k m = IsKeyed w keyed k m × IsFromInterface w c m
 
 -- listed by the maps of some types
 abbrev pub IsListedIn : Tables → List Map → List ℕ → ℕ → ℕ → Type 0
@@ -75,12 +79,14 @@ pub record HasMap (t : Tables) (maps : List Map) (c : ℕ) (P : ℕ → ℕ → 
 pub record IsDone (w : World) (keyed : List ℕ) (made : Made) (c : ℕ) : Type 0 where
   pub members : HasMap made.tables made.members.items c (Has w keyed c)
   pub inheritable : HasMap made.tables made.inheritable.items c (CanInherit w keyed c)
+  pub from_interfaces : HasMap made.tables made.from_interfaces.items c (CanInheritFromInterface w keyed c)
   pub handed : HasMap made.tables made.handed.items c (HandsDown w keyed c)
 
 -- each type has its maps, and no map hands down what the type does not
 pub record IsMaking (w : World) (keyed : List ℕ) (limit : ℕ) (made : Made) : Type 0 where
   pub members : length made.members.items ≡ limit
   pub inheritable : length made.inheritable.items ≡ limit
+  pub from_interfaces : length made.from_interfaces.items ≡ limit
   pub handed : length made.handed.items ≡ limit
   pub keys : made.tables.maps.keys ≡ length keyed
   pub good : (c : ℕ) (map : Map) → slice_get made.handed.items c ≡ Some map → IsGood made.tables map
@@ -94,4 +100,5 @@ IsReady w keyed made c = (s : ℕ) → IsDirectlyAbove w c s → (s ≡ c → �
 pub record AreMade (w : World) (keyed : List ℕ) (made : Made) : Type 0 where
   pub limit : IsOwnerLimit w (length made.members.items)
   pub inheritable : length made.inheritable.items ≡ length made.members.items
+  pub from_interfaces : length made.from_interfaces.items ≡ length made.members.items
   pub each : (c : ℕ) → c < length made.members.items → IsDone w keyed made c

@@ -1,28 +1,53 @@
 //! The types directly above a type (JLS 3rd edition, 8.1.4, 8.1.5 and 9.2).
 
-ghost use Rattle.std.specs.Prelude.{ℕ, IfOk, ◌↔◌};
+ghost use Rattle.std.specs.Prelude.{ℕ, IfOk, IsTrue, ◌↔◌};
 ghost use Rattle.std.specs.List.{Contains};
+ghost use Rattle.class_world.specs.Access.{IsInterface};
 ghost use Rattle.class_world.specs.Inheritance.{IsDirectlyAbove};
+ghost use Rattle.class_world.specs.Overriding.{IsSuperinterface};
+ghost use Rattle.member_methods.specs.TypesAbove.{all_above};
 
 use class_world::{JavaType, World};
 use java_tree::NoMemory;
 use std::alloc::Global;
 
+/// The types directly above a type: its direct superinterfaces, and the others.
+#[derive(Drop)]
+pub(crate) struct TypesAbove {
+    pub(crate) interfaces: Vec<u32>,
+    pub(crate) others: Vec<u32>,
+}
+
 /// The classes of a type's declared supertypes, in order; Object for an interface that declares none.
-pub(crate) fn directly_above(alloc: Global, w: &World, c: u32) -> Result<Vec<u32>, NoMemory>
-    ensures { IfOk result (λ v. (s : ℕ) → Contains v.items s ↔ IsDirectlyAbove w.now c s) }
+pub(crate) fn directly_above(alloc: Global, w: &World, c: u32) -> Result<TypesAbove, NoMemory>
+    ensures interfaces { IfOk result (λ r. (s : ℕ) → Contains r.interfaces.items s ↔ IsSuperinterface w.now c s) }
+    ensures all { IfOk result (λ r. (s : ℕ) → Contains (all_above r) s ↔ IsDirectlyAbove w.now c s) }
 {
-    let mut above = Vec::new(alloc);
+    let mut interfaces = Vec::new(alloc);
+    let mut others = Vec::new(alloc);
     let Some(info) = w.types.get(c as usize) else {
-        return Ok(above);
+        return Ok(TypesAbove { interfaces, others });
     };
     for d in info.supers.as_slice() {
         if let JavaType::Class(g, _) = d {
-            above.push(*g)?;
+            if is_interface(w, *g) {
+                interfaces.push(*g)?;
+            } else {
+                others.push(*g)?;
+            }
         }
     }
     if info.interface && info.supers.is_empty() {
-        above.push(0)?;
+        others.push(0)?;
     }
-    Ok(above)
+    Ok(TypesAbove { interfaces, others })
+}
+
+fn is_interface(w: &World, c: u32) -> bool
+    ensures { IsTrue result ↔ IsInterface w.now c }
+{
+    match w.types.get(c as usize) {
+        Some(info) => info.interface,
+        None => false,
+    }
 }

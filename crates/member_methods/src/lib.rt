@@ -1,10 +1,11 @@
 //! The member methods of each type, by name and number of parameters (JLS 3rd edition, 8.4.8, 9.2 and 9.4.1).
 #![tactic(auto)]
 
-ghost use Rattle.std.specs.Prelude.{◌≡◌, IfOk};
+ghost use Rattle.std.specs.Prelude.{◌≡◌, ◌↔◌, ℕ, IfOk};
+ghost use Rattle.std.specs.List.{Contains};
 ghost use Rattle.class_world.specs.declared.world.World as worlds;
 ghost use Rattle.class_world.specs.Sound.{IsSound};
-ghost use Rattle.member_methods.specs.Methods.{AreInheritable, AreMembers, AreNamed, HoldsMethods};
+ghost use Rattle.member_methods.specs.Methods.{AreFromInterfaces, AreInheritable, AreMembers, AreNamed, HoldsMethods, IsListedAt};
 ghost use Rattle.member_methods.specs.Methods as spec;
 
 mod above;
@@ -26,19 +27,20 @@ use std::alloc::Global;
 use std::collections::HashMap;
 use tables::Tables;
 
-/// The member methods of all types, by type, name and number of parameters; and what the types directly above each hand down to it.
+/// The member methods of all types, by type, name and number of parameters; and what the types directly above each hand down to it, all of them and its direct superinterfaces alone.
 #[derive(Drop)]
 pub struct MethodLists {
     keys: HashMap<Key, u32>,
     tables: Tables,
     members: Vec<Map>,
     inheritable: Vec<Map>,
+    from_interfaces: Vec<Map>,
 }
 
 impl MethodLists {
     /// The member methods of all types of a sound world.
     ///
-    /// Takes time for the types, their methods with the parts of their parameter types, and what the types directly above each do not share: the names and numbers of parameters that one has from elsewhere than the others, and the lists that differ, as often as the number of those types can be halved; all times the bits of a method's number. Where a type declares methods of a name and number of parameters, each that it has of them from above takes the time of finding the arguments of the type that declares it, and of its parameter types.
+    /// Takes time for the types, their methods with the parts of their parameter types, and what the types directly above each do not share: the names and numbers of parameters that one has from elsewhere than the others, and the lists that differ, as often as the number of those types can be halved, and once more; all times the bits of a method's number. Where a type declares methods of a name and number of parameters, each that it has of them from above takes the time of finding the arguments of the type that declares it, and of its parameter types.
     pub fn of(alloc: Global, w: &World) -> Result<MethodLists, NoMemory>
         requires { IsSound w.now }
         ensures { IfOk result (λ t. HoldsMethods w.now t) }
@@ -50,6 +52,7 @@ impl MethodLists {
             tables: made.tables,
             members: made.members,
             inheritable: made.inheritable,
+            from_interfaces: made.from_interfaces,
         })
     }
 
@@ -88,7 +91,24 @@ impl MethodLists {
     pub fn all(&self, alloc: Global, owner: u32) -> Result<Vec<u32>, NoMemory>
         ensures { (w : worlds.World) → HoldsMethods w self.now → IfOk result (λ v. AreMembers w owner v.items) }
     {
-        match self.members.get(owner as usize) {
+        self.all_listed(alloc, self.members.as_slice(), owner)
+    }
+
+    /// The numbers of the methods that the type `owner` inherits from its direct superinterfaces unless one of its own takes their place: the members of these that are not private, ascending. Takes time for them and for their names, each times the bits of a method's number; what several superinterfaces share is looked at once.
+    pub fn from_interfaces(&self, alloc: Global, owner: u32) -> Result<Vec<u32>, NoMemory>
+        ensures { (w : worlds.World) → HoldsMethods w self.now → IfOk result (λ v. AreFromInterfaces w owner v.items) }
+    {
+        let mut methods = self.all_listed(alloc, self.from_interfaces.as_slice(), owner)?;
+        methods.sort_unstable();
+        methods.dedup();
+        Ok(methods)
+    }
+
+    /// All that one of the maps lists; nothing where there is no such map.
+    fn all_listed(&self, alloc: Global, maps: &[Map], owner: u32) -> Result<Vec<u32>, NoMemory>
+        ensures { IfOk result (λ v. (m : ℕ) → Contains v.items m ↔ IsListedAt self.now maps.now owner m) }
+    {
+        match maps.get(owner as usize) {
             Some(map) => self.tables.all_listed(alloc, *map),
             None => Ok(Vec::new(alloc)),
         }

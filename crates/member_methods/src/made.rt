@@ -11,9 +11,10 @@ ghost use Rattle.member_methods.specs.Own.{AreOwn, AreSingle, IsInGroup};
 ghost use Rattle.member_methods.specs.Tables.{IsGood, IsMapOf};
 ghost use Rattle.member_methods.specs.Made.{AreApart, AreMade, HaveMaps, IsDone, IsListedIn, IsMaking, IsReady, IsWithAll, IsWithGroup};
 ghost use Rattle.member_methods.specs.Made as spec;
+ghost use Rattle.member_methods.specs.TypesAbove.{all_above};
 ghost use Rattle.member_methods.specs.declared.own.Group as the_group;
 
-use crate::above::directly_above;
+use crate::above::{TypesAbove, directly_above};
 use crate::own::{Group, groups, is_one_private, own_methods, owner_limit, without_private};
 use crate::signatures::{kept, own_type};
 use crate::tables::Tables;
@@ -22,12 +23,13 @@ use java_tree::{Items, NoMemory};
 use shared_maps::Map;
 use std::alloc::Global;
 
-/// The types' maps, by number: the list that `members` has for a key is that of its member methods, the one that `handed` has is that of those that are not private, and the one that `inheritable` has is that of what the types directly above it hand down.
+/// The types' maps, by number: the list that `members` has for a key is that of its member methods, the one that `handed` has is that of those that are not private, the one that `inheritable` has is that of what the types directly above it hand down, and the one that `from_interfaces` has is that of what its direct superinterfaces do.
 #[derive(Drop)]
 pub(crate) struct Made {
     pub(crate) tables: Tables,
     pub(crate) members: Vec<Map>,
     pub(crate) inheritable: Vec<Map>,
+    pub(crate) from_interfaces: Vec<Map>,
     handed: Vec<Map>,
 }
 
@@ -66,6 +68,7 @@ fn nothing_made(alloc: Global, keys: u32, limit: usize) -> Result<Made, NoMemory
         tables,
         members: vec![in alloc; empty; limit]?,
         inheritable: vec![in alloc; empty; limit]?,
+        from_interfaces: vec![in alloc; empty; limit]?,
         handed: vec![in alloc; empty; limit]?,
     })
 }
@@ -92,19 +95,37 @@ impl Made {
     {
         let groups = groups(alloc, keyed, own[c as usize].as_slice())?;
         let above = directly_above(alloc, w, c)?;
-        let inherited = inherited(
+        let (from_interfaces, inherited) = from_above(
             alloc,
             &mut self.tables,
             self.handed.as_slice(),
-            above.as_slice(),
+            &above,
         )?;
         let members = members_of(alloc, &mut self.tables, w, c, groups.as_slice(), inherited)?;
         let handed = handed_down(alloc, &mut self.tables, w, groups.as_slice(), members)?;
         self.members[c as usize] = members;
-        self.inheritable[c as usize] = inheritable(above.as_slice(), c, inherited, handed);
+        self.inheritable[c as usize] = inheritable(above.others.as_slice(), c, inherited, handed);
+        self.from_interfaces[c as usize] = from_interfaces;
         self.handed[c as usize] = handed;
         Ok(())
     }
+}
+
+/// What the direct superinterfaces of a type hand down to it, together, and what all types directly above it do.
+fn from_above(
+    alloc: Global,
+    tables: &mut Tables,
+    handed: &[Map],
+    above: &TypesAbove,
+) -> Result<(Map, Map), NoMemory>
+    requires { HaveMaps tables.old handed.now (all_above above.now) }
+    ensures interfaces { IfOk result (λ r. IsMapOf tables.old tables.new r.0 (IsListedIn tables.old handed.now above.now.interfaces.items)) }
+    ensures all { IfOk result (λ r. IsMapOf tables.old tables.new r.1 (IsListedIn tables.old handed.now (all_above above.now))) }
+{
+    let interfaces = inherited(alloc, tables, handed, above.interfaces.as_slice())?;
+    let others = inherited(alloc, tables, handed, above.others.as_slice())?;
+    let all = tables.joined(alloc, interfaces, others)?;
+    Ok((interfaces, all))
 }
 
 /// What some of the types directly above a type hand down to it, together.
@@ -131,11 +152,11 @@ fn inherited(
     tables.joined(alloc, map, more)
 }
 
-/// What the types directly above a type hand down to it. `inherited` lacks what it hands down itself: it is above itself where it is Object, and that an interface.
-fn inheritable(above: &[u32], c: u32, inherited: Map, handed: Map) -> Map
-    ensures { ((result ≡ handed) × Contains above.now c) ⊎ ((result ≡ inherited) × (Contains above.now c → ⊥)) }
+/// What the types directly above a type hand down to it; `others` are those that are no superinterfaces of it. `inherited` lacks what it hands down itself: it is above itself where it is Object, and that an interface.
+fn inheritable(others: &[u32], c: u32, inherited: Map, handed: Map) -> Map
+    ensures { ((result ≡ handed) × Contains others.now c) ⊎ ((result ≡ inherited) × (Contains others.now c → ⊥)) }
 {
-    if above.contains(&c) {
+    if others.contains(&c) {
         handed
     } else {
         inherited

@@ -33,7 +33,7 @@ pub(crate) enum Judged {
 
 /// The members of all types of a program, or the first of DR13 to DR20 that is broken: the one at the first node, and there the one with the lowest number. The node is the number of a method's or type's declaration. `NoMemory` also where there are 2^32 types or methods, 2^32 - 1 fields, or a field's name of that number, and where a class has two superclasses, which no program says.
 ///
-/// Takes the time that the parts take: for the types, their methods and fields, and what each type has from others than the first one directly above it, each times the bits of a number; for the members of each type and of its superinterfaces; for the pairs of one signature that a class has from both sides; and for all that each method overrides, in some rounds, mostly two or three. The rules are looked at before the tables that they do not need are made.
+/// Takes the time that the parts take: for the types, their methods and fields, and what each type has from others than the first one directly above it, each times the bits of a number; for the members of each type and those that it has from its superinterfaces; for the pairs of one signature that a class has from both sides; and for all that each method overrides, in some rounds, mostly two or three. The rules are looked at before the tables that they do not need are made.
 pub fn tabulate(alloc: Global, w: &World) -> Result<Members, Fault>
     requires sound { IsSound w.now }
     requires typed { HaveTypes w.now }

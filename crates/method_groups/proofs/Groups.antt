@@ -4,7 +4,6 @@ use Rattle.std.specs.Prelude.{slice_get, slice_set, replicate}
 use Rattle.std.specs.List.{Contains}
 use Rattle.std.specs.List.Sorted.{IsStrictlyIncreasing}
 use Rattle.std.proofs.lemmas.Option.{slice_get_within}
-use Rattle.std.proofs.lemmas.List.Elements.{Contains-append_left, Contains-append_right, Contains-append_cases}
 use Rattle.std.proofs.lemmas.List.Sorted.{Contains-permutation, IsPermutation-sym}
 use Rattle.class_world.proofs.Ends.{at_last, at_first}
 use Rattle.class_world.proofs.Words.{set_here, set_there, same_or_other}
@@ -16,10 +15,11 @@ use Rattle.method_groups.specs.declared.constructors.Shape.{Shape}
 use Rattle.method_groups.specs.declared.labels.Row.{Row}
 use Rattle.method_groups.specs.declared.labels.Labels.{Labels}
 use Rattle.method_groups.specs.declared.MethodGroups.{MethodGroups}
+use Rattle.method_groups.specs.declared.made.Made.{Made}
 use Rattle.method_groups.specs.Beside.{AreBeside}
 use Rattle.method_groups.specs.Labels.{StandsFor, last, rest, AreAllLabels, AreMembers, IsAddition, IsOverload, IsLabelled, Passes}
 use Rattle.method_groups.specs.Constructors.{IsConstructor, shape_of}
-use Rattle.method_groups.specs.Groups.{HasList, KeepsLists, HoldsConstructors, HoldsGroups}
+use Rattle.method_groups.specs.Groups.{AreMade, HasList, KeepsLists, HoldsConstructors, HoldsGroups}
 use Rattle.method_groups.proofs.Firsts.{contains_at, low_or_last}
 use Rattle.method_groups.proofs.Rows.{stands_cases, stands_above}
 use Rattle.method_groups.proofs.Beside.{beside_first, beside_grouped, grouped_cases, constructor_group}
@@ -68,6 +68,13 @@ placed_next w rows places old new label p lt placed kept here n r at = elim (sam
   | inr other ↦ list_kept old new r (IsOverload w rows n) kept (placed n r (sym (set_there places label n (Some p) other) ∙ at))
 ]
 
+-- where places and groups are the same
+pub made_kept : (w : World) (rows : List Row) (old new : Made) → new.by_label ≡ old.by_label → new.groups ≡ old.groups → AreMade w rows old → AreMade w rows new
+made_kept w rows old new places groups h = record {
+  size = ap (λ v. length v.items) places ∙ h.size;
+  each = λ n p at. subst (λ v. HasList v.items p (IsOverload w rows n)) (sym groups) (h.each n p (sym (ap (λ v. slice_get v.items n) places) ∙ at));
+}
+
 -- ---- the overloads that a label stands for
 
 -- the methods listed so far, and those of the overloads that are left, are those of the label
@@ -98,22 +105,26 @@ row_leads rows at row lt is x stands = rest lt is stands
 pub zero_leads : (listed : List Row) (at : ℕ) (x : Overloads) → StandsFor listed 0 x → StandsFor listed at x
 zero_leads listed at x stands = let never = stands_above listed 0 x stands in absurd (omega (arith, never))
 
+-- the methods after are those before and those of the list
+abbrev pub HasBoth : List ℕ → List ℕ → List ℕ → Type 0
+HasBoth before list after = (k : ℕ) → Contains after k ↔ (Contains before k ⊎ Contains list k)
+
 -- what the label's own row adds
-pub row_passes : (w : World) (rows : List Row) (methods list : List ℕ) (at : ℕ) (row : Row) → 0 < at → slice_get rows at ≡ Some row → IsAddition w rows row.rest row.last list
-    → Passes w rows methods at (methods ++ list) row.rest
-row_passes w rows methods list at row lt is adds k = (
+pub row_passes : (w : World) (rows : List Row) (methods list after : List ℕ) (at : ℕ) (row : Row) → 0 < at → slice_get rows at ≡ Some row → IsAddition w rows row.rest row.last list → HasBoth methods list after
+    → Passes w rows methods at after row.rest
+row_passes w rows methods list after at row lt is adds both k = (
   λ x. elim x [
-    | inl has ↦ elim (Contains-append_cases methods list k has) [
+    | inl has ↦ elim ((both k).0 has) [
       | inl old ↦ inl old
       | inr new ↦ inr (row.last, last lt is refl, adds.only k new)
     ]
     | inr more ↦ inr (more.0, rest lt is more.1, more.2)
   ],
   λ x. elim x [
-    | inl old ↦ inl (Contains-append_left methods list k old)
+    | inl old ↦ inl ((both k).1 (inl old))
     | inr left ↦ elim (stands_cases rows at row left.0 is left.1) [
       | inl here ↦ elim (adds.all k (subst (λ (y : Overloads). AreBeside w y.member_of y.method k) here left.2)) [
-        | inl has ↦ inl (Contains-append_right methods list k has)
+        | inl has ↦ inl ((both k).1 (inr has))
         | inr more ↦ inr more
       ]
       | inr more ↦ inr (left.0, more, left.2)
@@ -122,18 +133,18 @@ row_passes w rows methods list at row lt is adds k = (
 )
 
 -- the group of a label, if it is made
-pub group_passes : (w : World) (all : List Row) (methods list : List ℕ) (at : ℕ) → ((k : ℕ) → Contains list k ↔ IsOverload w all at k) → Passes w all methods at (methods ++ list) 0
-group_passes w all methods list at listed k = (
+pub group_passes : (w : World) (all : List Row) (methods list after : List ℕ) (at : ℕ) → ((k : ℕ) → Contains list k ↔ IsOverload w all at k) → HasBoth methods list after → Passes w all methods at after 0
+group_passes w all methods list after at listed both k = (
   λ x. elim x [
-    | inl has ↦ elim (Contains-append_cases methods list k has) [
+    | inl has ↦ elim ((both k).0 has) [
       | inl old ↦ inl old
       | inr new ↦ inr ((listed k).0 new)
     ]
     | inr left ↦ let never = stands_above all 0 left.0 left.1 in absurd (omega (arith, never))
   ],
   λ x. elim x [
-    | inl old ↦ inl (Contains-append_left methods list k old)
-    | inr its ↦ inl (Contains-append_right methods list k ((listed k).1 its))
+    | inl old ↦ inl ((both k).1 (inl old))
+    | inr its ↦ inl ((both k).1 (inr ((listed k).1 its)))
   ],
 )
 

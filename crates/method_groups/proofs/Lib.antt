@@ -5,4 +5,5 @@ pub mod Subtracting
 pub mod Additions
 pub mod Joins
 pub mod Shapes
+pub mod Takers
 pub mod Groups

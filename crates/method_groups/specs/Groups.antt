@@ -9,6 +9,7 @@ use Rattle.method_groups.specs.declared.constructors.Shape.{Shape}
 use Rattle.method_groups.specs.declared.labels.Row.{Row}
 use Rattle.method_groups.specs.declared.made.Made.{Made}
 use Rattle.method_groups.specs.Labels.{IsOverload}
+use Rattle.method_groups.specs.Taking.{AreTakers}
 use Rattle.method_groups.specs.Constructors.{IsConstructor}
 
 -- the list at the place p has what P holds of, ascending
@@ -29,6 +30,12 @@ HoldsConstructors w find lists = (q : Shape) (m : ℕ) → IsConstructor w q m �
 pub record AreMade (w : World) (rows : List Row) (made : Made) : Type 0 where
   pub size : length made.by_label.items ≡ length rows
   pub each : (n p : ℕ) → slice_get made.by_label.items n ≡ Some (Some p) → HasList made.groups.items p (IsOverload w rows n)
+
+-- so it is with the labels, and each method has a taker
+pub record AreReady (w : World) (rows : List Row) (t : Made) : Type 0 where
+  pub made : AreMade w rows t
+  pub size : length t.takers.items ≡ length w.methods
+  pub takers : AreTakers t.by_label.items t.takers.items
 
 -- each method has a place, and the list there is its group
 pub record HoldsGroups (w : World) (t : MethodGroups) : Type 0 where

@@ -1,4 +1,5 @@
 pub mod Beside
 pub mod Labels
 pub mod Constructors
+pub mod Taking
 pub mod Groups

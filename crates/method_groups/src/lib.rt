@@ -15,6 +15,7 @@ mod differences;
 mod labels;
 mod made;
 mod overloads;
+mod taking;
 mod types;
 
 use class_world::World;
@@ -35,9 +36,9 @@ pub struct MethodGroups {
 impl MethodGroups {
     /// The groups of the methods of a sound world. `NoMemory` also where it has 2^32 methods or types.
     ///
-    /// Takes time and memory for the methods that the types have as members, each as often as there are types that have it. Beyond that, each different group takes time for its numbers, and for what is added for the overloads that its methods stand among and those of no smaller group do; these are sorted. So it is more than linear where methods of one type stand beside different others elsewhere: n such methods have n groups, each of n numbers or more.
+    /// Takes time and memory for the methods that the types have as members, each as often as there are types that have it. Beyond that, each different group takes memory for its numbers. It takes time for sorting these, and for what is added for the overloads that its methods stand among and those of no smaller group do: a step for each method of each of them, and no memory where the group has the method already. So it is more than linear where methods of one type stand beside different others elsewhere: n such methods have n groups, each of n numbers or more.
     ///
-    /// What is added for overloads are all of their methods; or, for methods that stood among the same overloads before as most of the others, only those that these lack. So where each of n subclasses overrides one of n methods, the groups take time for their numbers, and for sorting them. n types of n overloads each, of which those that come one after the other differ in most, take n * n * n steps at worst.
+    /// What is added for overloads are all of their methods; or, for methods that stood among the same overloads before as most of the others, only those that these lack. So where each of n subclasses overrides one of n methods, the groups take time for their numbers, and for sorting them. Worst are n types of n overloads each, of which those that come one after the other differ in most: n groups of n numbers each, and a step for each overload of each type for each group, so n * n * n steps.
     pub fn of(alloc: Global, w: &World, lists: &MethodLists) -> Result<MethodGroups, NoMemory>
         requires sound { IsSound w.now }
         requires lists { HoldsMethods w.now lists.now }

@@ -11,11 +11,10 @@ use Rattle.class_world.specs.declared.world.JavaType.TheVariants as ty
 use Rattle.class_world.specs.Types.{substitute, variables}
 use Rattle.class_world.specs.Subtypes.{same}
 use Rattle.class_world.specs.Signatures.{IsMethod, IsSeenWith, HasParams, HaveOneSignatureIn}
-use Rattle.class_world.specs.Access.{IsInterface}
 use Rattle.class_world.specs.Inheritance.{DeclaresMethod, Inherits, IsDirectlyAbove, IsMemberMethod, declared, inherited, IsMethodNamed}
 use Rattle.class_world.specs.Overriding.{IsClass, IsSuperinterface, MeetIn, Replaces}
 use Rattle.class_world.proofs.Substs.{length_map, variables_length}
-use Rattle.member_methods.specs.Methods.{IsCalled, IsInheritable}
+use Rattle.member_methods.specs.Methods.{IsCalled, IsFromInterface, IsInheritable}
 use Rattle.method_ties.specs.declared.Meeting.{Meeting}
 use Rattle.method_ties.specs.Sides.{AreSuperclasses, IsInherited, IsLower, IsSupertype, Meets}
 use Rattle.method_ties.specs.Ties.{AreMeetings, AreReplaced}
@@ -127,10 +126,11 @@ module _ (w : World) where
   abbrev pub IsUpper : ℕ → ℕ → Type 0
   IsUpper c k = (i : ℕ) × IsSuperinterface w c i × Inherits w c i k
 
-  pub upper_told : (c k : ℕ) (above : List ℕ) → ((s : ℕ) → Contains above s ↔ IsSupertype w c s) → IsInherited w c k → (i : ℕ) × Contains above i × IsInterface w i × IsMemberMethod w i k → IsUpper c k
-  upper_told c k above supers inh h =
-      let up = (supers h.0).0 h.1 in
-      (h.0, (up, h.2), from_each c h.0 k inh (inl up) h.3)
+  pub upper_told : (c k : ℕ) → IsInherited w c k → IsFromInterface w c k → IsUpper c k
+  upper_told c k inh h = let i = h.0 in (i.0, i.1, from_each c i.0 k inh (inl i.1.0) i.2)
+
+  pub upper_parts : (c k : ℕ) → IsUpper c k → IsFromInterface w c k
+  upper_parts c k up = ((up.0, up.1, up.2.1), up.2.2)
 
   pub meet_parts : (c m k : ℕ) → MeetIn w c m k → IsUpper c k × Meets w c m k
   meet_parts c m k h = let both = h.0 in (both.1, ((both.0, both.2), h.1, h.2))
@@ -147,20 +147,19 @@ module _ (w : World) where
       let shape = one_shape c m k minfo.0 info h.2 minfo.1 is in
       (inh.0, (minfo.0, minfo.1, shape.0, shape.1))
 
-  -- pairs of the members k of interfaces above that c has, and what meets them, are the meetings
-  pub meetings_told : (c : ℕ) (above upper : List ℕ) (ps : List Meeting) → ((s : ℕ) → Contains above s ↔ IsSupertype w c s)
-      → ((k : ℕ) → Contains upper k ↔ ((i : ℕ) × Contains above i × IsInterface w i × IsMemberMethod w i k))
+  -- pairs of the members k of interfaces that c has, and what meets them, are the meetings
+  pub meetings_told : (c : ℕ) (upper : List ℕ) (ps : List Meeting) → ((k : ℕ) → Contains upper k ↔ IsFromInterface w c k)
       → ((p : Meeting) → Contains ps p ↔ ((k : ℕ) × Contains upper k × (IsInherited w c k × (p.upper ≡ k) × Meets w c p.lower k))) → AreMeetings w c ps
-  meetings_told c above upper ps supers ups has m k = (
+  meetings_told c upper ps ups has m k = (
     λ h.
         let from = (has (record { lower = m; upper = k })).0 h in
         let is = from.2 in
-        let up : IsUpper c from.0 = upper_told c from.0 above supers is.0 ((ups from.0).0 from.1) in
+        let up : IsUpper c from.0 = upper_told c from.0 is.0 ((ups from.0).0 from.1) in
         subst (MeetIn w c m) (sym is.1) (meet_whole c m from.0 up is.2),
     λ h.
         let parts = meet_parts c m k h in
         let up = parts.0 in
-        (has (record { lower = m; upper = k })).1 (k, (ups k).1 (up.0, (supers up.0).1 up.1.0, up.1.1, up.2.1), (is_inherited c up.0 k up.2, refl, parts.1)),
+        (has (record { lower = m; upper = k })).1 (k, (ups k).1 (upper_parts c k up), (is_inherited c up.0 k up.2, refl, parts.1)),
   )
 
   pub none_meet : (c : ℕ) (ps : List Meeting) → ps ≡ [] → (IsClass w c → ⊥) → AreMeetings w c ps

@@ -37,7 +37,7 @@ pub struct MethodTies {
 impl MethodTies {
     /// The ties of a sound world's methods.
     ///
-    /// Takes time for each method, for each member of each type's superinterfaces, and for the pairs that have one signature, each with the steps up to the types that declare the two. Where a list of one name and number of parameters has more than four methods, these are numbered by their signatures, once for the type that compares them; the methods of a type are to have numbers in a row, as in the world of a program, since the lists of another type are forgotten.
+    /// Takes time for each method, for the members that each class has from its superinterfaces, times the bits of a method's number, and for the pairs that have one signature, each with the steps up to the types that declare the two. Where a list of one name and number of parameters has more than four methods, these are numbered by their signatures, once for the type that compares them; the methods of a type are to have numbers in a row, as in the world of a program, since the lists of another type are forgotten.
     pub fn of(alloc: Global, w: &World, lists: &MethodLists) -> Result<MethodTies, NoMemory>
         requires sound { IsSound w.now }
         requires lists { HoldsMethods w.now lists.now }

@@ -5,7 +5,6 @@ ghost use Rattle.std.specs.List.{Contains};
 ghost use Rattle.std.specs.List.Sorted.{IsStrictlyIncreasing};
 ghost use Rattle.class_world.specs.Sound.{IsSound};
 ghost use Rattle.class_world.specs.Inheritance.{DeclaresMethod, IsMemberMethod};
-ghost use Rattle.class_world.specs.Access.{IsInterface};
 ghost use Rattle.class_world.specs.Overriding.{IsClass};
 ghost use Rattle.member_methods.specs.Methods.{AreNamed, HoldsMethods};
 ghost use Rattle.method_ties.specs.declared.Meeting as pairs;
@@ -15,34 +14,13 @@ ghost use Rattle.method_ties.specs.Tables.{HoldTables, IsKeyed, IsKeyedLower, na
 
 use crate::Meeting;
 use crate::lists::{ascending, is_among};
-use crate::supers::{classes, is_class, is_interface, supertypes};
+use crate::supers::{classes, is_class, supertypes};
 use crate::tables::{FEW, Key, Tables};
 use class_world::World;
 use java_tree::{Items, NoMemory};
 use member_methods::MethodLists;
 use seen_methods::{have_one_signature, method_of};
 use std::alloc::Global;
-
-/// The members of those of the types that are interfaces, ascending.
-fn interface_members(
-    alloc: Global,
-    w: &World,
-    lists: &MethodLists,
-    types: &[u32],
-) -> Result<Vec<u32>, NoMemory>
-    requires { HoldsMethods w.now lists.now }
-    ensures has { IfOk result (λ v. (k : ℕ) → Contains v.items k ↔ ((i : ℕ) × Contains types.now i × IsInterface w.now i × IsMemberMethod w.now i k)) }
-    ensures ascending { IfOk result (λ v. IsStrictlyIncreasing v.items) }
-{
-    let mut found = Vec::new(alloc);
-    for i in types {
-        if is_interface(w, *i) {
-            let members = lists.all(alloc, *i)?;
-            found.extend_from_slice(members.as_slice())?;
-        }
-    }
-    Ok(ascending(found))
-}
 
 /// Whether the method is a member of one of the types.
 fn is_of_one(w: &World, lists: &MethodLists, types: &[u32], m: u32) -> bool
@@ -284,7 +262,7 @@ fn meetings_of(
     }
     let above = supertypes(alloc, w, c)?;
     let supers = classes(alloc, w, above.as_slice())?;
-    let upper = interface_members(alloc, w, lists, above.as_slice())?;
+    let upper = lists.from_interfaces(alloc, c)?;
     let mut found = Vec::new(alloc);
     let mut tables = Tables::new(alloc, c);
     for k in &upper {

@@ -2,7 +2,6 @@
 
 ghost use Rattle.std.specs.Prelude.{ℕ, IfOk, IsTrue, ◌↔◌};
 ghost use Rattle.std.specs.List.{Contains};
-ghost use Rattle.class_world.specs.Access.{IsInterface};
 ghost use Rattle.class_world.specs.Overriding.{IsClass};
 ghost use Rattle.method_ties.specs.Sides.{IsSupertype};
 
@@ -44,15 +43,6 @@ pub(crate) fn is_class(w: &World, c: u32) -> bool
 {
     match w.types.get(c as usize) {
         Some(info) => !info.interface,
-        None => false,
-    }
-}
-
-pub(crate) fn is_interface(w: &World, c: u32) -> bool
-    ensures { IsTrue result ↔ IsInterface w.now c }
-{
-    match w.types.get(c as usize) {
-        Some(info) => info.interface,
         None => false,
     }
 }

@@ -140,13 +140,6 @@ module _ (w : World) (t : Rows) (followed : (m x : ℕ) → OverridesAtOnce w m 
   pub followed_holds : IsDerived w t → HoldsOverriding w t
   followed_holds derived m k = (derived.sound m k, has_all)
 
--- what is wanted of an entry of what t overrides
-abbrev pub HasThird : World → ℕ → Rows → ℕ × ℕ → Type 0
-HasThird w m t p = (m ≡ p.0 → ⊥) → AgreeBelow w m p.0 → Has t m p.0
-
-pub third_on : (w : World) (m : ℕ) (old new : Rows) (p : ℕ × ℕ) → Grows old new → HasThird w m old p → HasThird w m new p
-third_on w m old new p grows h other agree = grows m p.0 (h other agree)
-
 -- ---- a pass over items, each of which may add to the rows: where nothing was added, all is as it was, and what is wanted of an item holds of each so far
 
 pub record IsPass {A : Type 0} (w : World) (start now : Rows) (added : Bool) (P : Rows → A → Type 0) (items : List A) (i : ℕ) : Type 0 where

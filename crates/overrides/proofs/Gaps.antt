@@ -79,7 +79,7 @@ nothing_there None h = refl
 nothing_there (Some v) h = absurd (h (v, refl))
 
 -- a value stands in one of the rows, at a key below the limit
-has_within : (t : Rows) (m k : ℕ) → Has t m k → (m < length t.rows) × (k < t.maps.keys)
+pub has_within : (t : Rows) (m k : ℕ) → Has t m k → (m < length t.rows) × (k < t.maps.keys)
 has_within t m k h = go (slice_get t.rows m) refl h
   where
     go : (o : Option Map) → slice_get t.rows m ≡ o → (v : ℕ) × (value_of t.maps o k ≡ Some v) → (m < length t.rows) × (k < t.maps.keys)

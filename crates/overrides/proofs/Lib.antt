@@ -7,5 +7,6 @@ pub mod Edges
 pub mod Linked
 pub mod Taken
 pub mod Gaps
+pub mod Lacking
 pub mod Marks
 pub mod Groups

@@ -109,7 +109,7 @@ fn is_map(taken: Option<Map>, row: Map) -> bool
 
 /// Adds what the method `m` overrides through `t`, which it overrides at once.
 ///
-/// Where the pair is free, that is all that `t` overrides, and the two rows are united. Else the row of `t` is gone through, with a look-up and an `agree_below` for each entry.
+/// Where the pair is free, that is all that `t` overrides, and the two rows are united. Else each key that the row of `t` has and that of `m` lacks is taken by itself, with an `agree_below`.
 fn add_through(
     alloc: Global,
     w: &World,
@@ -128,20 +128,21 @@ fn add_through(
     ensures joined { OnOk result (IsJoined w.now table.old table.new m t) }
 {
     if free {
-        return add_row(alloc, w, m, t, table);
+        return add_row(w, m, t, table);
     }
     let mut added = add(m, t, table)?;
-    let above = table.list(alloc, t)?;
-    for entry in &above {
-        if add_third(alloc, w, m, entry.0, table)? {
+    let mut from = 0;
+    'lacking: while let Some(k) = table.first_lacking(m, t, from) {
+        if add_third(alloc, w, m, k, table)? {
             added = true;
         }
+        from = k + 1;
     }
     Ok(added)
 }
 
-/// Adds `t` and all that it overrides to the row of `m`, in the time and memory of the nodes that the two rows do not share; unless all of that is there, which a look-up for each entry tells.
-fn add_row(alloc: Global, w: &World, m: u32, t: u32, table: &mut Table) -> Result<bool, NoMemory>
+/// Adds `t` and all that it overrides to the row of `m`, unless all of that is there. Takes the time of the nodes that the two rows do not share, and memory for such nodes alone.
+fn add_row(w: &World, m: u32, t: u32, table: &mut Table) -> Result<bool, NoMemory>
     requires at_once { OverridesAtOnce w.now m t }
     requires free { IsFree w.now m t }
     requires table { IsDerived w.now table.old }
@@ -150,48 +151,28 @@ fn add_row(alloc: Global, w: &World, m: u32, t: u32, table: &mut Table) -> Resul
     ensures step { IfOk result (IsStep table.old table.new) }
     ensures joined { OnOk result (IsJoined w.now table.old table.new m t) }
 {
-    if !lacks_row(alloc, m, t, table)? {
+    if !lacks_row(m, t, table) {
         return Ok(false);
     }
     table.unite(m, t)?;
     Ok(true)
 }
 
-/// Whether the row of `m` lacks `t`, or something but `m` that the row of `t` has.
-fn lacks_row(alloc: Global, m: u32, t: u32, table: &Table) -> Result<bool, NoMemory>
-    ensures lacks { IfOk result (λ r. IsTrue r → Lacks table.now m t) }
-    ensures whole { IfOk result (λ r. r ≡ false → HasRow table.now m t) }
+/// Whether the row of `m` lacks `t`, or something but `m` that the row of `t` has. Takes no memory, and the time of the nodes that the two rows do not share.
+fn lacks_row(m: u32, t: u32, table: &Table) -> bool
+    ensures lacks { IsTrue result → Lacks table.now m t }
+    ensures whole { result ≡ false → HasRow table.now m t }
 {
     if table.get(m, t).is_none() {
-        return Ok(true);
+        return true;
     }
-    let entries = table.list(alloc, t)?;
-    let found = lacks_entry(m, entries.as_slice(), table);
-    Ok(found)
-}
-
-/// Whether the row of `m` lacks a key of the entries, other than `m`.
-fn lacks_entry(m: u32, entries: &[(u32, u32)], table: &Table) -> bool
-    ensures lacks { IsTrue result → (p : ℕ × ℕ) × Contains entries.now p × (m ≡ p.0 → ⊥) × (Has table.now m p.0 → ⊥) }
-    ensures whole { result ≡ false → (p : ℕ × ℕ) → Contains entries.now p → (m ≡ p.0 → ⊥) → Has table.now m p.0 }
-{
-    for entry in entries {
-        if lacks_key(m, entry.0, table) {
-            return true;
-        }
-    }
-    false
-}
-
-/// Whether the row of `m` lacks a key, other than `m`.
-fn lacks_key(m: u32, k: u32, table: &Table) -> bool
-    ensures lacks { IsTrue result → (m ≡ k → ⊥) × (Has table.now m k → ⊥) }
-    ensures has { result ≡ false → (m ≡ k → ⊥) → Has table.now m k }
-{
-    if m == k {
+    let Some(k) = table.first_lacking(m, t, 0) else {
         return false;
+    };
+    if k != m {
+        return true;
     }
-    table.get(m, k).is_none()
+    table.first_lacking(m, t, k + 1).is_some()
 }
 
 fn add(m: u32, k: u32, table: &mut Table) -> Result<bool, NoMemory>
@@ -220,7 +201,7 @@ fn add_third(alloc: Global, w: &World, m: u32, k: u32, table: &mut Table) -> Res
     ensures step { IfOk result (IsStep table.old table.new) }
     ensures has { OnOk result ((m ≡ k → ⊥) → AgreeBelow w.now m k → Has table.new m k) }
 {
-    if m == k || table.get(m, k).is_some() || !agree_below(alloc, w, m, k)? {
+    if m == k || !agree_below(alloc, w, m, k)? {
         return Ok(false);
     }
     add(m, k, table)

@@ -1,7 +1,8 @@
 //! A table of numbers by two numbers, whose rows share what they have in common.
 
-ghost use Rattle.std.specs.Prelude.{◌≡◌, ◌==◌, ℕ, ◌<◌, None, if◌then◌else◌, length, IfOk, OnOk};
-ghost use Rattle.shared_maps.specs.Maps.{AreEntries, IsMap, KeepsMaps, value_in};
+ghost use Rattle.std.specs.Prelude.{◌≡◌, ◌==◌, ℕ, ◌+◌, ◌^◌, ◌<◌, None, if◌then◌else◌, length, IfOk, IfSome, OnOk};
+ghost use Rattle.shared_maps.specs.Trees.{IsFirst};
+ghost use Rattle.shared_maps.specs.Maps.{AreEntries, IsLacking, IsMap, KeepsMaps, value_in};
 ghost use Rattle.overrides.specs.Tables.{AreOfOneSize, IsOfSize, IsUnited, IsWritten, value_at};
 
 use java_tree::NoMemory;
@@ -65,6 +66,14 @@ impl Table {
             Some(map) => self.maps.entries(alloc, *map),
             None => Ok(Vec::new(alloc)),
         }
+    }
+
+    /// The first key from `from` on that the row of `t` has, and that of `m` has not. Takes no memory, and time for the nodes that the two rows do not share.
+    pub(crate) fn first_lacking(&self, m: u32, t: u32, from: u32) -> Option<u32>
+        ensures first { IsFirst (IsLacking (value_at self.now m) (value_at self.now t) from) result }
+        ensures next { IfSome result (λ k. k + 1 < 2 ^ 32) }
+    {
+        self.maps.first_lacking(self.row(m), self.row(t), from)
     }
 
     pub(crate) fn set(&mut self, m: u32, k: u32, value: u32) -> Result<(), NoMemory>

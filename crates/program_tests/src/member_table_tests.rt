@@ -868,7 +868,7 @@ const COUNTED: [Case<'static>; 9] = [
 ];
 
 /// Methods that are together in some type, and constructors.
-const GROUPS: [Case<'static>; 9] = [
+const GROUPS: [Case<'static>; 10] = [
     (
         "class A { void m(int x) { } void m(long x) { } void m() { } }",
         &[Grouped("A.m", "A.m A.m'"), Grouped("A.m''", "A.m''")],
@@ -896,6 +896,17 @@ const GROUPS: [Case<'static>; 9] = [
             Grouped("I.m", "I.m J.m"),
             Grouped("J.m", "I.m J.m K.m"),
             Grouped("K.m", "J.m K.m"),
+        ],
+    ),
+    // Three types whose overloads are the same in part.
+    (
+        "interface I { void m(int x); } interface J { void m(long x); } interface K { void m(char x); } interface L { void m(short x); } interface M { void m(byte x); } interface P extends I, J, K { } interface Q extends J, K, L { } interface R extends K, L, M { }",
+        &[
+            Grouped("I.m", "I.m J.m K.m"),
+            Grouped("J.m", "I.m J.m K.m L.m"),
+            Grouped("K.m", "I.m J.m K.m L.m M.m"),
+            Grouped("L.m", "J.m K.m L.m M.m"),
+            Grouped("M.m", "K.m L.m M.m"),
         ],
     ),
     (

@@ -50,7 +50,7 @@ differ_same a b c d p q h = (h.0, h.1, sym p ∙ h.2, sym q ∙ h.3, h.4)
 differ_never : (o : Option ℕ) → Differ o o → ⊥
 differ_never o h = let both : Some h.0 ≡ Some h.1 = sym h.2 ∙ h.3 in h.4 (let same : h.0 ≡ h.1 = cc both in same)
 
-none_never : (o : Option ℕ) (x : ℕ) → o ≡ None → o ≡ Some x → ⊥
+pub none_never : (o : Option ℕ) (x : ℕ) → o ≡ None → o ≡ Some x → ⊥
 none_never o x none some = let both : None ≡ Some x = sym none ∙ some in absurd (cc both)
 
 -- ---- keys of trees

@@ -5,3 +5,4 @@ pub mod Views
 pub mod Kept
 pub mod Unions
 pub mod Differing
+pub mod Lacking

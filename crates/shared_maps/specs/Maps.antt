@@ -1,7 +1,7 @@
 -- What the maps of a memory are, and what stays as it is.
-use Rattle.std.specs.Prelude.{◌≡◌, ℕ, ◌<◌, ◌↔◌, if◌then◌else◌, nat_lt, List, Option, Some, None, length, Contains, AllPairs}
+use Rattle.std.specs.Prelude.{◌≡◌, ℕ, ◌<◌, ◌≤◌, ◌↔◌, if◌then◌else◌, nat_lt, List, Option, Some, None, length, Contains, AllPairs}
 use Rattle.shared_maps.specs.declared.Map.{Map}
-use Rattle.shared_maps.specs.Trees.{Differ, Memory, value_at}
+use Rattle.shared_maps.specs.Trees.{Differ, Memory, OnlyRight, value_at}
 
 -- the number is one of a map of the memory
 pub record IsMap (m : Memory) (map : Map) : Type 0 where
@@ -26,3 +26,8 @@ pub record AreEntries (value : ℕ → Option ℕ) (entries : List (ℕ × ℕ))
 pub record AreDiffering (left right : ℕ → Option ℕ) (keys : List ℕ) : Type 0 where
   pub each : (k : ℕ) → Contains keys k ↔ Differ (left k) (right k)
   pub ascending : AllPairs (λ a b. a < b) keys
+
+-- a key from `from` on that has a value on the right side, and none on the left
+pub record IsLacking (left right : ℕ → Option ℕ) (from k : ℕ) : Type 0 where
+  pub large : from ≤ k
+  pub values : OnlyRight (left k) (right k)

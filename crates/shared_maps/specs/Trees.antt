@@ -58,6 +58,21 @@ pub record DiffersIn (nodes : List Node) (keys levels left right from k : ℕ) :
   pub small : k < keys
   pub values : Differ (value_at nodes levels left (k - from)) (value_at nodes levels right (k - from))
 
+-- a value on the right side, and none on the left
+abbrev pub OnlyRight : Option ℕ → Option ℕ → Type 0
+OnlyRight left right = (v : ℕ) × (left ≡ None) × (right ≡ Some v)
+
+-- a key from `from` on that the right one of two trees has, and the left one has not
+pub record LacksFrom (nodes : List Node) (levels left right from k : ℕ) : Type 0 where
+  pub within : k < 2 ^ levels
+  pub large : from ≤ k
+  pub values : OnlyRight (value_at nodes levels left k) (value_at nodes levels right k)
+
+-- the least number that P holds of, if it holds of one
+abbrev pub IsFirst : (ℕ → Type 0) → Option ℕ → Type 0
+IsFirst P None = (k : ℕ) → P k → ⊥
+IsFirst P (Some first) = P first × ((k : ℕ) → P k → first ≤ k)
+
 -- behind the old keys, in ascending order, those that P holds of
 pub record Adds (old new : List ℕ) (P : ℕ → Type 0) : Type 0 where
   pub more : List ℕ

@@ -1,16 +1,19 @@
 //! Maps from numbers to numbers that share what they have in common.
 #![tactic(auto)]
 
-ghost use Rattle.std.specs.Prelude.{◌≡◌, ◌==◌, ℕ, ◌<◌, None, if◌then◌else◌, IfOk};
+ghost use Rattle.std.specs.Prelude.{◌≡◌, ◌==◌, ℕ, ◌+◌, ◌^◌, ◌<◌, None, if◌then◌else◌, IfOk, IfSome};
 ghost use Rattle.std.specs.Option.{option_or};
-ghost use Rattle.shared_maps.specs.Maps.{AreDiffering, AreEntries, IsMap, KeepsMaps, value_in};
+ghost use Rattle.shared_maps.specs.Trees.{IsFirst};
+ghost use Rattle.shared_maps.specs.Maps.{AreDiffering, AreEntries, IsLacking, IsMap, KeepsMaps, value_in};
 
 mod trees;
 
 use java_tree::{Items, NoMemory};
 use std::alloc::Global;
 use std::marker::Model;
-use trees::{Node, add_differing, add_entries, found, height_for, known, united, with_value};
+use trees::{
+    Node, add_differing, add_entries, first_lacking, found, height_for, known, united, with_value,
+};
 
 /// The number of a map. It means something in the memory alone that gave it.
 #[derive(Clone, Copy, Debug, PartialEq, Eq)]
@@ -136,5 +139,17 @@ impl SharedMaps {
             &mut different,
         )?;
         Ok(different)
+    }
+
+    /// The first key from `from` on that has a value in `right` and none in `left`. A number of no map of this memory counts as the empty map.
+    ///
+    /// Takes no memory, and time for the nodes in which the two trees differ between `from` and that key, and for a look at as many more as the largest key has bits: it looks no further where both have the same node, or `right` has no keys.
+    pub fn first_lacking(&self, left: Map, right: Map, from: u32) -> Option<u32>
+        ensures first { IsFirst (IsLacking (value_in self.now left) (value_in self.now right) from) result }
+        ensures next { IfSome result (λ k. k + 1 < 2 ^ 32) }
+    {
+        let nodes = self.nodes.as_slice();
+        let key = first_lacking(nodes, self.height, left.number, right.number, from)?;
+        if key < self.keys { Some(key) } else { None }
     }
 }

@@ -2,7 +2,7 @@
 
 ghost use Rattle.std.specs.Prelude.{◌≡◌, ◌==◌, ℕ, ◌+◌, ◌-◌, ◌^◌, ◌<◌, ◌≤◌, ◌++◌, ◌↔◌, Some, IsTrue, if◌then◌else◌, length, slice_get, IfOk, OnOk};
 ghost use Rattle.std.specs.Option.{option_or};
-ghost use Rattle.shared_maps.specs.Trees.{Adds, AreInside, Differ, DiffersIn, Grows, HasHalves, IsArena, entries_at, value_at, value_of};
+ghost use Rattle.shared_maps.specs.Trees.{Adds, AreInside, Differ, DiffersIn, Grows, HasHalves, IsArena, IsFirst, LacksFrom, OnlyRight, entries_at, value_at, value_of};
 
 use java_tree::{Items, NoMemory};
 use std::alloc::Global;
@@ -308,4 +308,49 @@ pub(crate) fn add_differing(
         from + half,
         different,
     )
+}
+
+/// Whether the right one of two trees of no levels has a value, and the left one has none.
+fn only_right(nodes: &[Node], left: u32, right: u32) -> bool
+    ensures { IsTrue result ↔ OnlyRight (value_of (slice_get nodes.now left)) (value_of (slice_get nodes.now right)) }
+{
+    match own_value(nodes, left) {
+        Some(_) => false,
+        None => own_value(nodes, right).is_some(),
+    }
+}
+
+/// The first key from `from` on that the right one of two trees has, and the left one has not.
+pub(crate) fn first_lacking(
+    nodes: &[Node],
+    levels: u32,
+    left: u32,
+    right: u32,
+    from: u32,
+) -> Option<u32>
+    requires arena { IsArena nodes.now }
+    requires levels { levels ≤ 32 }
+    ensures { IsFirst (LacksFrom nodes.now levels left right from) result }
+{
+    if left == right || right == 0 {
+        return None;
+    }
+    if levels == 0 {
+        if from == 0 && only_right(nodes, left, right) {
+            return Some(0);
+        }
+        return None;
+    }
+    let half = half_of(levels);
+    let (left_low, left_high) = halves(nodes, left);
+    let (right_low, right_high) = halves(nodes, right);
+    if from >= half {
+        let key = first_lacking(nodes, levels - 1, left_high, right_high, from - half)?;
+        return Some(half + key);
+    }
+    if let Some(key) = first_lacking(nodes, levels - 1, left_low, right_low, from) {
+        return Some(key);
+    }
+    let key = first_lacking(nodes, levels - 1, left_high, right_high, 0)?;
+    Some(half + key)
 }

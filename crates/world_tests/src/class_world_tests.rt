@@ -683,6 +683,135 @@ fn arguments_are_put_step_by_step(rt: HostRuntime) -> Result<(), Fail> {
     Ok(())
 }
 
+// the classes of the chain
+const BOX: u32 = 2;
+
+const FIRST: u32 = 3;
+
+const CLOSED: u32 = 17;
+
+const NESTED: u32 = 29;
+
+const LAST: u32 = 42;
+
+/// An argument on the chain: a variable, or `S` where it has none, perhaps in a box.
+#[derive(Clone, Copy)]
+struct Link {
+    variable: Option<u32>,
+    boxed: bool,
+}
+
+/// Two arguments of a class of the chain.
+#[derive(Clone, Copy)]
+struct Links {
+    first: Link,
+    second: Link,
+}
+
+/// The class's own variables.
+const OWN: Links = Links {
+    first: Link {
+        variable: Some(0),
+        boxed: false,
+    },
+    second: Link {
+        variable: Some(1),
+        boxed: false,
+    },
+};
+
+const S: Link = Link {
+    variable: None,
+    boxed: false,
+};
+
+/// The arguments of the class above a class of the chain. Most turn them; one puts `S` for the second, and one puts the first into a box.
+fn links_above(c: u32, links: Links) -> Links {
+    if c == CLOSED {
+        return Links { second: S, ..links };
+    }
+    if c == NESTED {
+        let first = Link {
+            boxed: true,
+            ..links.first
+        };
+        return Links { first, ..links };
+    }
+    Links {
+        first: links.second,
+        second: links.first,
+    }
+}
+
+fn link_type(alloc: Global, link: Link) -> Result<JavaType, NoMemory> {
+    let inner = match link.variable {
+        Some(k) => JavaType::Var(k),
+        None => class_type(alloc, 1),
+    };
+    if link.boxed {
+        Ok(JavaType::Class(BOX, Items::one(alloc, inner)?))
+    } else {
+        Ok(inner)
+    }
+}
+
+fn chain_type(alloc: Global, c: u32, links: Links) -> Result<JavaType, NoMemory> {
+    let first = link_type(alloc, links.first)?;
+    let second = link_type(alloc, links.second)?;
+    Ok(JavaType::Class(c, two(alloc, first, second)?))
+}
+
+/// Object, `S`, `Box<T>`, and a chain of forty classes `Link<X, Y>`, each of which extends the one before.
+fn chain(alloc: Global) -> Result<World, Fail>
+    ensures { IfOk result (λ w. IsSound w) }
+{
+    let mut types = declared(
+        alloc,
+        &[(0, &[]), (0, &[Step::Bare(0)]), (1, &[]), (2, &[])],
+    )?;
+    for c in FIRST + 1..LAST + 1 {
+        let above = chain_type(alloc, c - 1, links_above(c, OWN))?;
+        types.push(generic(alloc, 2, vec![in alloc; above]?))?;
+    }
+    sound_worlds::sound(alloc, world(alloc, types, Vec::new(alloc)))
+}
+
+/// Whether the supertypes of a class of the chain are those that the arguments, put step by step, make.
+fn are_chained(alloc: Global, w: &World, from: u32) -> Result<bool, Fail>
+    requires { IsSound w.now }
+{
+    let t = chain_type(alloc, from, OWN)?;
+    let mut links = OWN;
+    let mut to = from;
+    for _ in FIRST..LAST + 1 {
+        let u = chain_type(alloc, to, links)?;
+        let found = supertype(alloc, w, &t, to)?.ok_or("no supertype")?;
+        if !is_same(&found, &u) || asked(w, &t, &u) != Some((true, true)) {
+            return Ok(false);
+        }
+        if to == FIRST {
+            break;
+        }
+        links = links_above(to, links);
+        to = to.saturating_sub(1);
+    }
+    Ok(true)
+}
+
+#[test]
+fn a_long_way_up_keeps_the_arguments(rt: HostRuntime) -> Result<(), Fail> {
+    let alloc = rt.alloc();
+    let w = chain(alloc)?;
+    for from in FIRST..LAST + 1 {
+        assert!(rt; are_chained(alloc, &w, from)?);
+    }
+    let low = chain_type(alloc, LAST, OWN)?;
+    let high = chain_type(alloc, FIRST, OWN)?;
+    assert_eq!(rt; asked(&w, &low, &high), Some((false, false)));
+    assert_eq!(rt; asked(&w, &high, &low), Some((false, false)));
+    Ok(())
+}
+
 #[test]
 fn supertypes_come_first(rt: HostRuntime) -> Result<(), Fail> {
     let alloc = rt.alloc();

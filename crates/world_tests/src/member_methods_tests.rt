@@ -497,3 +497,48 @@ fn what_a_type_can_inherit(rt: HostRuntime) -> Result<(), Fail> {
     }
     Ok(())
 }
+
+/// interface I { void f(); }  interface J extends I { void g(); }  interface K extends I { void g();  void f(); }
+///
+/// class A { void g() {} }  class B extends A implements J, K { void f() {} }
+const FROM_BOTH_SIDES: Sample<'static> = Sample {
+    types: &[
+        (true, 0, &[]),
+        (true, 0, &[Class(2)]),
+        (true, 0, &[Class(2)]),
+        (false, 0, &[Class(OBJECT)]),
+        (false, 0, &[Class(5), Class(3), Class(4)]),
+    ],
+    methods: &[
+        (2, Open, 2, &[], None),
+        (3, Open, 3, &[], None),
+        (4, Open, 3, &[], None),
+        (4, Open, 2, &[], None),
+        (5, Open, 3, &[], None),
+        (6, Open, 2, &[], None),
+    ],
+    answers: &[(6, 2, 0, &[7]), (6, 3, 0, &[3, 4, 6])],
+};
+
+/// Types, by number, and what each has from its direct superinterfaces; the last is none.
+const FROM_INTERFACES: [(u32, &[u32]); 6] = [
+    (6, &[0, 1, 2, 3, 4, 5]),
+    (3, &[0, 1, 2]),
+    (2, &[]),
+    (5, &[]),
+    (OBJECT, &[]),
+    (7, &[]),
+];
+
+#[test]
+fn what_a_type_has_from_its_interfaces(rt: HostRuntime) -> Result<(), Fail> {
+    let x = &FROM_BOTH_SIDES;
+    assert_eq!(rt; wrong(rt.alloc(), x)?, None);
+    let w = world_with_object_methods(rt.alloc(), x.types, x.methods)?;
+    let lists = lists(rt.alloc(), w)?;
+    for (owner, methods) in FROM_INTERFACES.as_slice() {
+        let found = lists.from_interfaces(rt.alloc(), *owner)?;
+        assert_eq!(rt; found.as_slice(), *methods);
+    }
+    Ok(())
+}

@@ -153,3 +153,62 @@ fn a_union_that_is_one_of_the_two_is_no_new_map(rt: HostRuntime) -> Result<(), F
     assert!(rt; maps.differing(rt.alloc(), few, more)?.is_empty());
     Ok(())
 }
+
+/// The keys of `right` that `left` lacks, each found behind the last one.
+fn lacking(alloc: Global, maps: &SharedMaps, left: Map, right: Map) -> Result<Vec<u32>, NoMemory> {
+    let mut keys = Vec::new(alloc);
+    let mut from = 0;
+    // A map of 1000 keys lacks no more than these.
+    for _ in 0..1001 {
+        let Some(key) = maps.first_lacking(left, right, from) else {
+            break;
+        };
+        keys.push(key)?;
+        from = key + 1;
+    }
+    Ok(keys)
+}
+
+/// Whether a map of the keys `left` lacks just these keys of one of the keys `right`.
+fn lacks(
+    alloc: Global,
+    left: &[(u32, u32)],
+    right: &[(u32, u32)],
+    keys: &[u32],
+) -> Result<bool, NoMemory> {
+    let mut maps = SharedMaps::new(alloc, 1000)?;
+    let a = of_entries(&mut maps, left)?;
+    let b = of_entries(&mut maps, right)?;
+    Ok(lacking(alloc, &maps, a, b)?.as_slice() == keys)
+}
+
+#[test]
+fn keys_that_a_map_lacks(rt: HostRuntime) -> Result<(), Fail> {
+    let few = [(1, 10), (500, 50)];
+    let more = [(0, 3), (1, 11), (499, 7), (500, 50), (999, 8)];
+    assert!(rt; lacks(rt.alloc(), &few, &more, &[0, 499, 999])?);
+    assert!(rt; lacks(rt.alloc(), &more, &few, &[])?);
+    assert!(rt; lacks(rt.alloc(), &few, &few, &[])?);
+    assert!(rt; lacks(rt.alloc(), &[], &few, &[1, 500])?);
+    assert!(rt; lacks(rt.alloc(), &few, &[], &[])?);
+    assert!(rt; lacks(rt.alloc(), &[], &[], &[])?);
+    Ok(())
+}
+
+#[test]
+fn the_first_key_that_a_map_lacks(rt: HostRuntime) -> Result<(), Fail> {
+    let mut maps = SharedMaps::new(rt.alloc(), 1000)?;
+    let few = of_entries(&mut maps, &[(1, 10), (500, 50)])?;
+    let more = maps.put(few, 700, Some(70))?;
+    assert!(rt; maps.first_lacking(few, more, 0) == Some(700));
+    assert!(rt; maps.first_lacking(few, more, 700) == Some(700));
+    assert!(rt; maps.first_lacking(few, more, 701) == None);
+    assert!(rt; maps.first_lacking(few, more, u32::MAX) == None);
+    assert!(rt; maps.first_lacking(more, few, 0) == None);
+    assert!(rt; maps.first_lacking(few, few, 0) == None);
+    let mut all = SharedMaps::new(rt.alloc(), u32::MAX)?;
+    let high = all.put(all.empty(), u32::MAX - 1, Some(3))?;
+    assert!(rt; all.first_lacking(all.empty(), high, 1) == Some(u32::MAX - 1));
+    assert!(rt; all.first_lacking(all.empty(), high, u32::MAX) == None);
+    Ok(())
+}

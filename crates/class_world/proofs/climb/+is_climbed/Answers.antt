@@ -3,7 +3,6 @@ use Rattle.class_world.specs.declared.world.JavaType.TheVariants as ty
 use Rattle.class_world.specs.declared.seen.Seen.{Through}
 use Rattle.class_world.specs.Seen.{seen_as}
 use Rattle.class_world.specs.Subtypes.{Parameterizes}
-use Rattle.class_world.proofs.Heights.{lower}
 use Rattle.class_world.proofs.Ways as by
 use Rattle.class_world.proofs.climb.+is_climbed.Goals as goal
 
@@ -32,8 +31,7 @@ is_climbed-requires t c =
     let found = c.in-Some.ensures.some in
     let high = by.raw_step c.args.w.now c.requires.sound c.args.c c.class_of.result g c.is_raw-raw.result (map (seen_as c.args.seen.now) c.args.args.now) c.in-Some.d.now c.args.t.now c.if-raw.true said found.0 found.1
     c.class_of.ensures is_t in
-    let falls = lower c.args.w.now c.requires.sound c.args.c c.class_of.result c.in-Some.d.now found.0 c.class_of.ensures in
-    (rw (← c.decreases) falls, (c.requires.sound, (high.0, (g, is_t, high.1))))
+    (rw (← c.decreases) high.3, (c.requires.sound, (high.0, (g, is_t, high.1))))
 
 pub is_climbed-requires-else-raw : goal.is_climbed-requires-else-raw
 is_climbed-requires-else-raw t c =
@@ -46,11 +44,10 @@ is_climbed-requires-else-raw t c =
     let d = c.in-Some.d.now in
     let h = c.class_of-else-raw.result in
     let ds = c.args_of-else-raw.result.now in
-    let shape = by.read_shape c.args.w.now c.requires.sound c.args.c h d ds found.0 c.class_of-else-raw.ensures c.args_of-else-raw.ensures in
+    let shape = by.read_shape c.args.w.now c.requires.sound c.args.c h c.is_raw-raw.result (map (seen_as c.args.seen.now) c.args.args.now) d ds said found.0 c.class_of-else-raw.ensures c.args_of-else-raw.ensures in
     let high = by.full_step c.args.w.now c.requires.sound c.args.c h g c.is_raw-raw.result c.args.args.now ds c.args.seen.now (Through c.args.args c.args.seen) d c.args.t.now (λ k. absurd (cc (k, c.if-raw.false))) said
     found.0 found.1 shape is_t (λ u. refl) in
-    let falls = lower c.args.w.now c.requires.sound c.args.c h d found.0 c.class_of-else-raw.ensures in
-    (rw (← c.decreases) falls, (c.requires.sound, (high.0, (g, is_t, high.1))))
+    (rw (← c.decreases) high.3, (c.requires.sound, (high.0, (g, is_t, high.1))))
 
 pub returns-then-raw : goal.returns-then-raw
 returns-then-raw t c =
@@ -75,7 +72,7 @@ returns-else-raw t c =
     let d = c.in-Some.d.now in
     let h = c.class_of-else-raw.result in
     let ds = c.args_of-else-raw.result.now in
-    let shape = by.read_shape c.args.w.now c.requires.sound c.args.c h d ds found.0 c.class_of-else-raw.ensures c.args_of-else-raw.ensures in
+    let shape = by.read_shape c.args.w.now c.requires.sound c.args.c h c.is_raw-raw.result (map (seen_as c.args.seen.now) c.args.args.now) d ds said found.0 c.class_of-else-raw.ensures c.args_of-else-raw.ensures in
     let high = by.full_step c.args.w.now c.requires.sound c.args.c h g c.is_raw-raw.result c.args.args.now ds c.args.seen.now (Through c.args.args c.args.seen) d c.args.t.now (λ k. absurd (cc (k, c.if-raw.false))) said
     found.0 found.1 shape is_t (λ u. refl) in
     by.both_ways c.is_climbed-else-raw.ensures high.2

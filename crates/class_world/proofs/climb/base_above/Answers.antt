@@ -1,7 +1,6 @@
 use Rattle.std.proofs.Common.{sym, subst, ◌∙◌}
 use Rattle.class_world.specs.Subtypes.{Subtype, same}
 use Rattle.class_world.specs.Climbs.{HasBase, IsClassType}
-use Rattle.class_world.proofs.Heights.{lower_by}
 use Rattle.class_world.proofs.Ways as by
 use Rattle.class_world.proofs.climb.base_above.Goals as goal
 
@@ -27,7 +26,10 @@ loop-alloc-smaller c =
     let at = c.loop-alloc.at in
     let is = c.loop-alloc.invariant.class in
     let read = by.said_read c.args.w.now c.requires.sound at c.class_of-c.result c.args_of.result.now c.is_raw-raw.result is c.class_of-c.ensures c.args_of.ensures c.is_raw-raw.ensures in
-    lower_by c.args.w.now c.requires.sound c.class_of-c.result is.1.1 at c.in_ok-at-2.at c.in-Some.d.now read.0 c.in-Some.ensures.some.0 c.in_ok-at-2.ensures
+    let found = c.in-Some.ensures.some in
+    let next = by.next_type c.args.w.now c.requires.sound c.args.t.now at c.class_of-c.result c.args.g c.is_raw-raw.result is.1.1 c.in-Some.d.now c.in_ok-at-2.at read.0 read.1 found.0 found.1 c.in_ok-at-2.ensures
+    c.loop-alloc.invariant.below in
+    next.3
 
 pub loop-alloc-preserved : goal.loop-alloc-preserved
 loop-alloc-preserved c =

@@ -1,13 +1,13 @@
-use Rattle.std.proofs.Common.{◌≡◌, ℕ, ◌+◌, Vec, Global, List, [], ◌↔◌, inl, inr, refl, sym, subst}
-use Rattle.std.specs.Prelude.{slice_index_or as get_or}
+use Rattle.std.proofs.Common.{◌≡◌, ℕ, ◌+◌, Vec, Global, Result, List, [], ◌↔◌, inl, inr, refl, sym, subst}
+use Rattle.std.specs.Prelude.{slice_index_or as get_or, IfOk}
 use Rattle.std.specs.List.{Contains}
 use Rattle.std.specs.List.Sorted.{IsStrictlyIncreasing}
 use Rattle.std.proofs.lemmas.Option.{slice_get-get_or}
-use Rattle.class_world.specs.Access.{IsInterface}
-use Rattle.class_world.specs.Inheritance.{IsMemberMethod}
+use Rattle.java_tree.specs.declared.fault.NoMemory.{NoMemory}
 use Rattle.class_world.specs.Overriding.{IsClass}
+use Rattle.member_methods.specs.Methods.{AreFromInterfaces, IsFromInterface}
 use Rattle.method_ties.specs.declared.Meeting.{Meeting}
-use Rattle.method_ties.specs.Sides.{AreSuperclasses, IsInherited, IsOnce, IsSupertype, Meets}
+use Rattle.method_ties.specs.Sides.{AreSuperclasses, IsInherited, IsOnce, Meets}
 use Rattle.method_ties.specs.declared.tables.Tables.{Tables}
 use Rattle.method_ties.specs.Tables.{HoldTables, IsKeyedLower}
 use Rattle.method_ties.specs.Ties.{AreMeetings}
@@ -31,7 +31,8 @@ add_meetings-requires-clause-new c m h =
     let i = c.loop-k.k-index in
     let x = get_or items i 0 in
     let z : Meeting = record { lower = m; upper = x } in
-    let rises = subst IsStrictlyIncreasing (sym c.deref-k-items.ensures.value) c.in_ok-upper.ensures.ascending in
+    let told = subst (λ (r : Result (Vec ℕ Global) NoMemory). IfOk r (λ (v : Vec ℕ Global). AreFromInterfaces c.args.w.now c.args.c v.items)) c.in_ok-upper.was (c.from_interfaces.ensures c.args.w.now c.requires.lists) in
+    let rises = subst IsStrictlyIncreasing (sym c.deref-k-items.ensures.value) told.1 in
     elim ((c.loop-k.invariant.0.0 z).0 h) [
       | inl was ↦ none_in [] z refl was
       | inr t ↦ increasing_new items i x rises (slice_get-get_or items i 0 c.loop-k-test.true) (subst (Among items i) (sym t.2.1) t.1)
@@ -95,9 +96,8 @@ pub returns : goal.returns
 returns c =
     let w = c.args.w.now in
     let items = c.deref-k-items.result.now in
-    let above = c.as_slice-2.result.now in
     let P = λ (k : ℕ) (p : Meeting). IsInherited w c.args.c k × (p.upper ≡ k) × Meets w c.args.c p.lower k in
-    let supers = subst (λ (l : List ℕ). (s : ℕ) → Contains l s ↔ IsSupertype w c.args.c s) (sym c.as_slice-2.ensures.value) c.in_ok-above.ensures in
-    let ups = subst (λ (l : List ℕ). (k : ℕ) → Contains l k ↔ ((i : ℕ) × Contains above i × IsInterface w i × IsMemberMethod w i k)) (sym c.deref-k-items.ensures.value) c.in_ok-upper.ensures.has in
+    let told = subst (λ (r : Result (Vec ℕ Global) NoMemory). IfOk r (λ (v : Vec ℕ Global). AreFromInterfaces w c.args.c v.items)) c.in_ok-upper.was (c.from_interfaces.ensures w c.requires.lists) in
+    let ups = subst (λ (l : List ℕ). (k : ℕ) → Contains l k ↔ IsFromInterface w c.args.c k) (sym c.deref-k-items.ensures.value) told.0 in
     let has = gathers_alone P items c.loop-k.found.items c.loop-k.k-index c.loop-k-test.false c.loop-k.invariant.0.0 in
-    subst (λ (ps : List Meeting). AreMeetings w c.args.c ps × IsOnce ps) (sym c.from_vec.ensures) (meetings_told w c.args.c above items c.loop-k.found.items supers ups has, c.loop-k.invariant.0.1)
+    subst (λ (ps : List Meeting). AreMeetings w c.args.c ps × IsOnce ps) (sym c.from_vec.ensures) (meetings_told w c.args.c items c.loop-k.found.items ups has, c.loop-k.invariant.0.1)

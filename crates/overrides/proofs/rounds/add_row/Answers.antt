@@ -17,14 +17,14 @@ unite-requires-clause-key c = derived_key c.args.w.now c.args.table.now c.args.m
 pub unite-requires-clause-itself : goal.unite-requires-clause-itself
 unite-requires-clause-itself c = let lt = (at_once_within c.requires.at_once).0 in omega (arith, lt, c.requires.table.size.keys)
 
-pub returns-then-not-branch-clause-maps : goal.returns-then-not-branch-clause-maps
-returns-then-not-branch-clause-maps c = keeps_itself c.args.table.now.maps
+pub returns-then-not-lacks_row-clause-maps : goal.returns-then-not-lacks_row-clause-maps
+returns-then-not-lacks_row-clause-maps c = keeps_itself c.args.table.now.maps
 
-pub returns-then-not-branch-clause-step : goal.returns-then-not-branch-clause-step
-returns-then-not-branch-clause-step c = step_none c.args.table.now
+pub returns-then-not-lacks_row-clause-step : goal.returns-then-not-lacks_row-clause-step
+returns-then-not-lacks_row-clause-step c = step_none c.args.table.now
 
-pub returns-then-not-branch-clause-joined : goal.returns-then-not-branch-clause-joined
-returns-then-not-branch-clause-joined c = whole_joined c.args.w.now c.args.table.now c.args.m c.args.t (c.in_ok-lacks_row.ensures.whole c.if-not-branch.true)
+pub returns-then-not-lacks_row-clause-joined : goal.returns-then-not-lacks_row-clause-joined
+returns-then-not-lacks_row-clause-joined c = whole_joined c.args.w.now c.args.table.now c.args.m c.args.t (c.lacks_row.ensures.whole c.if-not-lacks_row.true)
 
 pub returns-clause-table : goal.returns-clause-table
 returns-clause-table c =
@@ -32,7 +32,7 @@ returns-clause-table c =
     united_derived c.args.table.now c.unite.new.self c.args.m c.args.t both.united c.args.w.now c.requires.table both.size c.requires.at_once c.requires.free
 
 pub returns-clause-step : goal.returns-clause-step
-returns-clause-step c = united_step c.args.table.now c.unite.new.self c.args.m c.args.t c.in_ok-unite.ensures.united (c.in_ok-lacks_row.ensures.lacks c.if-not-branch.false)
+returns-clause-step c = united_step c.args.table.now c.unite.new.self c.args.m c.args.t c.in_ok-unite.ensures.united (c.lacks_row.ensures.lacks c.if-not-lacks_row.false)
 
 pub returns-clause-joined : goal.returns-clause-joined
 returns-clause-joined c = united_joined c.args.table.now c.unite.new.self c.args.m c.args.t c.in_ok-unite.ensures.united c.args.w.now

@@ -24,4 +24,4 @@ place_of_label-requires-clause-members c =
 pub loop-label-preserved : goal.loop-label-preserved
 loop-label-preserved c =
     let one = c.in_ok-place_of_label.ensures in
-    record { made = one.made; kept = λ p list at. one.kept p list (c.loop-label.invariant.kept p list at) }
+    record { ready = one.ready; kept = λ p list at. one.kept p list (c.loop-label.invariant.kept p list at) }
