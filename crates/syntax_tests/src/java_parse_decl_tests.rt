@@ -1,7 +1,7 @@
 //! Files with their trees, as chapters 7, 8 and 9 of the JLS have them.
 
 use crate::samples::unit_of;
-use crate::written::{put_dims, put_name};
+use crate::written::{Written, put_dims, put_name};
 use java_parse_decl::SyntaxFault;
 use java_tree::Names;
 use java_tree::tree::{
@@ -116,88 +116,77 @@ struct Look<'a> {
 }
 
 /// The text of a node.
-fn put_text(out: &mut String, look: Look<'_>, node: Node) -> Result<(), AllocError> {
+fn put_text(out: &mut Written, look: Look<'_>, node: Node) {
     let text = look
         .text
         .get(node.span.from as usize..node.span.to as usize)
         .unwrap_or(b"no text");
     match str::from_utf8(text) {
-        Ok(text) => out.push_str(text)?,
-        Err(_) => out.push_str("no text")?,
+        Ok(text) => out.put(text),
+        Err(_) => out.put("no text"),
     }
-    Ok(())
 }
 
-fn put_path(out: &mut String, look: Look<'_>, path: &[Name]) -> Result<(), AllocError> {
+fn put_path(out: &mut Written, look: Look<'_>, path: &[Name]) {
     let mut later = false;
     for name in path {
-        out.push_str(if later { "." } else { " " })?;
-        put_name(out, look.names, *name)?;
+        out.put(if later { "." } else { " " });
+        put_name(out, look.names, *name);
         later = true;
     }
-    Ok(())
 }
 
-fn put_mods(out: &mut String, mods: &[Mod]) -> Result<(), AllocError> {
+fn put_mods(out: &mut Written, mods: &[Mod]) {
     for word in mods {
-        out.push_str(match word {
+        out.put(match word {
             Mod::Public => " public",
             Mod::Protected => " protected",
             Mod::Private => " private",
             Mod::Static => " static",
             Mod::Abstract => " abstract",
             Mod::Final => " final",
-        })?;
+        });
     }
-    Ok(())
 }
 
-fn put_types(
-    out: &mut String,
-    look: Look<'_>,
-    word: &str,
-    types: &[TypeExpr],
-) -> Result<(), AllocError> {
+fn put_types(out: &mut Written, look: Look<'_>, word: &str, types: &[TypeExpr]) {
     for ty in types {
-        out.push_str(word)?;
-        put_text(out, look, ty.node)?;
+        out.put(word);
+        put_text(out, look, ty.node);
     }
-    Ok(())
 }
 
-fn put_vars(out: &mut String, look: Look<'_>, vars: &[Var]) -> Result<(), AllocError> {
+fn put_vars(out: &mut Written, look: Look<'_>, vars: &[Var]) {
     for var in vars {
-        out.push_str(" ")?;
-        put_name(out, look.names, var.name)?;
-        put_dims(out, "", var.dims)?;
+        out.put(" ");
+        put_name(out, look.names, var.name);
+        put_dims(out, "", var.dims);
         if let Some(init) = &var.init {
-            out.push_str("=")?;
-            put_text(out, look, init.node)?;
+            out.put("=");
+            put_text(out, look, init.node);
         }
     }
-    Ok(())
 }
 
-fn put_params(out: &mut String, look: Look<'_>, params: &[Param]) -> Result<(), AllocError> {
+fn put_params(out: &mut Written, look: Look<'_>, params: &[Param]) {
     for param in params {
-        out.push_str(if param.is_final { " (final " } else { " (" })?;
-        put_text(out, look, param.ty.node)?;
-        out.push_str(" ")?;
-        put_name(out, look.names, param.name)?;
-        put_dims(out, "", param.dims)?;
-        out.push_str(")")?;
+        out.put(if param.is_final { " (final " } else { " (" });
+        put_text(out, look, param.ty.node);
+        out.put(" ");
+        put_name(out, look.names, param.name);
+        put_dims(out, "", param.dims);
+        out.put(")");
     }
-    Ok(())
 }
 
-fn put_member(out: &mut String, look: Look<'_>, member: &Member) -> Result<(), AllocError> {
+fn put_member(out: &mut Written, look: Look<'_>, member: &Member) {
     match member {
         Member::Field { mods, ty, vars, .. } => {
-            out.push_str("(field")?;
-            put_mods(out, mods.as_slice())?;
-            out.push_str(" ")?;
-            put_text(out, look, ty.node)?;
-            put_vars(out, look, vars.as_slice())?;
+            out.put("(field");
+            put_mods(out, mods.as_slice());
+            out.put(" ");
+            put_text(out, look, ty.node);
+            put_vars(out, look, vars.as_slice());
         }
         Member::Method {
             mods,
@@ -209,74 +198,73 @@ fn put_member(out: &mut String, look: Look<'_>, member: &Member) -> Result<(), A
             body,
             ..
         } => {
-            out.push_str(if *constructor {
+            out.put(if *constructor {
                 "(constructor"
             } else {
                 "(method"
-            })?;
-            put_mods(out, mods.as_slice())?;
+            });
+            put_mods(out, mods.as_slice());
             match result {
                 Some(ty) => {
-                    out.push_str(" ")?;
-                    put_text(out, look, ty.node)?;
+                    out.put(" ");
+                    put_text(out, look, ty.node);
                 }
-                None => out.push_str(if *constructor { "" } else { " void" })?,
+                None => out.put(if *constructor { "" } else { " void" }),
             }
-            out.push_str(" ")?;
-            put_name(out, look.names, *name)?;
-            put_params(out, look, params.as_slice())?;
-            put_types(out, look, " throws ", throws.as_slice())?;
-            out.push_str(" ")?;
+            out.put(" ");
+            put_name(out, look.names, *name);
+            put_params(out, look, params.as_slice());
+            put_types(out, look, " throws ", throws.as_slice());
+            out.put(" ");
             match body {
-                Some(body) => put_text(out, look, body.node)?,
-                None => out.push_str(";")?,
+                Some(body) => put_text(out, look, body.node),
+                None => out.put(";"),
             }
         }
     }
-    out.push_str(")")
+    out.put(")")
 }
 
-fn put_decl(out: &mut String, look: Look<'_>, decl: &TypeDecl) -> Result<(), AllocError> {
-    out.push_str(if decl.interface {
+fn put_decl(out: &mut Written, look: Look<'_>, decl: &TypeDecl) {
+    out.put(if decl.interface {
         "(interface"
     } else {
         "(class"
-    })?;
-    put_mods(out, decl.mods.as_slice())?;
-    out.push_str(" ")?;
-    put_name(out, look.names, decl.name)?;
+    });
+    put_mods(out, decl.mods.as_slice());
+    out.put(" ");
+    put_name(out, look.names, decl.name);
     for param in decl.params.as_slice() {
-        out.push_str(" <")?;
-        put_name(out, look.names, *param)?;
-        out.push_str(">")?;
+        out.put(" <");
+        put_name(out, look.names, *param);
+        out.put(">");
     }
-    put_types(out, look, " extends ", decl.extends.as_slice())?;
-    put_types(out, look, " implements ", decl.implements.as_slice())?;
+    put_types(out, look, " extends ", decl.extends.as_slice());
+    put_types(out, look, " implements ", decl.implements.as_slice());
     for member in decl.members.as_slice() {
-        put_member(out, look, member)?;
+        put_member(out, look, member);
     }
-    out.push_str(")")
+    out.put(")")
 }
 
-fn put_import(out: &mut String, look: Look<'_>, import: &Import) -> Result<(), AllocError> {
-    out.push_str("(import")?;
-    put_path(out, look, import.path.as_slice())?;
-    out.push_str(if import.all { " *)" } else { ")" })
+fn put_import(out: &mut Written, look: Look<'_>, import: &Import) {
+    out.put("(import");
+    put_path(out, look, import.path.as_slice());
+    out.put(if import.all { " *)" } else { ")" })
 }
 
-fn put_unit(out: &mut String, look: Look<'_>, unit: &SourceUnit) -> Result<(), AllocError> {
+fn put_unit(out: &mut Written, look: Look<'_>, unit: &SourceUnit) {
     if !unit.package.is_empty() {
-        out.push_str("(package")?;
-        put_path(out, look, unit.package.as_slice())?;
-        out.push_str(")")?;
+        out.put("(package");
+        put_path(out, look, unit.package.as_slice());
+        out.put(")");
     }
     for import in unit.imports.as_slice() {
-        put_import(out, look, import)?;
+        put_import(out, look, import);
     }
     for decl in unit.types.as_slice() {
-        put_decl(out, look, decl)?;
+        put_decl(out, look, decl);
     }
-    Ok(())
 }
 
 /// The tree of a text, written out, or a fault. A text without tokens has none of the two.
@@ -285,13 +273,13 @@ fn read(alloc: Global, text: &str) -> Result<Option<String>, SyntaxFault> {
     let Some((unit, names)) = unit_of(alloc, text, 0)? else {
         return Ok(None);
     };
-    let mut out = String::new(alloc);
+    let mut out = Written::new(alloc);
     let look = Look {
         text,
         names: &names,
     };
-    put_unit(&mut out, look, &unit)?;
-    Ok(Some(out))
+    put_unit(&mut out, look, &unit);
+    out.text().map(Some).ok_or(SyntaxFault::NoMemory)
 }
 
 /// Whether the text of a file has a tree that is written so.

@@ -1,6 +1,6 @@
 //! Texts with their trees, as chapters 4, 14, 15 and 18 of the JLS have them.
 
-use crate::written::{put_dims, put_name};
+use crate::written::{Written, put_dims, put_name};
 use java_lexer::lex;
 use java_parse_expr::{SyntaxFault, parse_expr, parse_init, parse_stmt, parse_type};
 use java_tree::Names;
@@ -9,7 +9,6 @@ use java_tree::tree::{
     TypeExpr, UnOp, Var,
 };
 use std::alloc::{AllocError, Global};
-use std::fmt::Write;
 use std::test::Fail;
 
 /// The four calls.
@@ -491,52 +490,53 @@ struct Look<'a> {
     places: bool,
 }
 
-fn put_node(out: &mut String, look: Look<'_>, node: Node) -> Result<(), AllocError> {
+fn put_node(out: &mut Written, look: Look<'_>, node: Node) {
     if look.places {
-        write!(out, "{}@{}-{}:", node.id, node.span.from, node.span.to)?;
+        out.number(node.id as u64);
+        out.put("@");
+        out.span(node.span);
+        out.put(":");
     }
-    Ok(())
 }
 
-fn put_head(out: &mut String, look: Look<'_>, head: &Head) -> Result<(), AllocError> {
+fn put_head(out: &mut Written, look: Look<'_>, head: &Head) {
     match head {
-        Head::Prim(Primitive::Int) => out.push_str("int")?,
-        Head::Prim(Primitive::Long) => out.push_str("long")?,
-        Head::Prim(Primitive::Char) => out.push_str("char")?,
-        Head::Prim(Primitive::Boolean) => out.push_str("boolean")?,
+        Head::Prim(Primitive::Int) => out.put("int"),
+        Head::Prim(Primitive::Long) => out.put("long"),
+        Head::Prim(Primitive::Char) => out.put("char"),
+        Head::Prim(Primitive::Boolean) => out.put("boolean"),
         Head::Path(path) => {
             let mut later = false;
             for name in path.as_slice() {
-                out.push_str(if later { "." } else { "" })?;
-                put_name(out, look.names, *name)?;
+                out.put(if later { "." } else { "" });
+                put_name(out, look.names, *name);
                 later = true;
             }
         }
     }
-    Ok(())
 }
 
 #[cycle(types_out)]
-fn put_args(out: &mut String, look: Look<'_>, args: &[TypeExpr]) -> Result<(), AllocError> {
+fn put_args(out: &mut Written, look: Look<'_>, args: &[TypeExpr]) {
     let mut later = false;
     for arg in args {
-        out.push_str(if later { ", " } else { "<" })?;
-        put_type(out, look, arg)?;
+        out.put(if later { ", " } else { "<" });
+        put_type(out, look, arg);
         later = true;
     }
-    Ok(())
 }
 
 #[cycle(types_out)]
-fn put_type(out: &mut String, look: Look<'_>, ty: &TypeExpr) -> Result<(), AllocError> {
-    put_node(out, look, ty.node)?;
-    put_head(out, look, &ty.head)?;
+fn put_type(out: &mut Written, look: Look<'_>, ty: &TypeExpr) {
+    put_node(out, look, ty.node);
+    put_head(out, look, &ty.head);
     if look.places {
-        write!(out, "@{}-{}", ty.head_span.from, ty.head_span.to)?;
+        out.put("@");
+        out.span(ty.head_span);
     }
-    put_args(out, look, ty.args.as_slice())?;
+    put_args(out, look, ty.args.as_slice());
     if !ty.args.is_empty() {
-        out.push_str(">")?;
+        out.put(">");
     }
     put_dims(out, "", ty.dims)
 }
@@ -583,127 +583,131 @@ fn step(up: bool, before: bool) -> &'static str {
     }
 }
 
-fn put_text(out: &mut String, units: &[u16]) -> Result<(), AllocError> {
-    out.push_str("(text")?;
+fn put_text(out: &mut Written, units: &[u16]) {
+    out.put("(text");
     for unit in units {
-        write!(out, " {unit}")?;
+        out.put(" ");
+        out.number(*unit as u64);
     }
-    out.push_str(")")?;
-    Ok(())
+    out.put(")");
 }
 
 // A literal, or another form without parts.
-fn put_leaf(out: &mut String, look: Look<'_>, form: &ExprForm) -> Result<(), AllocError> {
+fn put_leaf(out: &mut Written, look: Look<'_>, form: &ExprForm) {
     match form {
         ExprForm::Number {
             value,
             decimal,
             long,
         } => {
-            let front = if *decimal { "" } else { "#" };
-            let back = if *long { "L" } else { "" };
-            write!(out, "{front}{value}{back}")
+            out.put(if *decimal { "" } else { "#" });
+            out.number(*value);
+            out.put(if *long { "L" } else { "" })
         }
-        ExprForm::Char(unit) => write!(out, "(char {unit})"),
+        ExprForm::Char(unit) => {
+            out.put("(char ");
+            out.number(*unit as u64);
+            out.put(")")
+        }
         ExprForm::Text(units) => put_text(out, units.as_slice()),
-        ExprForm::Bool(true) => out.push_str("true"),
-        ExprForm::Bool(false) => out.push_str("false"),
-        ExprForm::Null => out.push_str("null"),
-        ExprForm::This => out.push_str("this"),
+        ExprForm::Bool(true) => out.put("true"),
+        ExprForm::Bool(false) => out.put("false"),
+        ExprForm::Null => out.put("null"),
+        ExprForm::This => out.put("this"),
         ExprForm::Name(name) => put_name(out, look.names, *name),
         ExprForm::SuperField(name) => {
-            out.push_str("(super ")?;
-            put_name(out, look.names, *name)?;
-            out.push_str(")")
+            out.put("(super ");
+            put_name(out, look.names, *name);
+            out.put(")")
         }
-        _ => out.push_str("no leaf"),
+        _ => out.put("no leaf"),
     }
 }
 
 // A word or operator and expressions, each behind a blank.
 #[cycle(exprs_out)]
-fn put_exprs(out: &mut String, look: Look<'_>, es: &[Expr]) -> Result<(), AllocError> {
+fn put_exprs(out: &mut Written, look: Look<'_>, es: &[Expr]) {
     for e in es {
-        out.push_str(" ")?;
-        put_expr(out, look, e)?;
+        out.put(" ");
+        put_expr(out, look, e);
     }
-    Ok(())
 }
 
 #[cycle(exprs_out)]
-fn put_one(out: &mut String, look: Look<'_>, word: &str, of: &Expr) -> Result<(), AllocError> {
-    out.push_str("(")?;
-    out.push_str(word)?;
-    out.push_str(" ")?;
+fn put_one(out: &mut Written, look: Look<'_>, word: &str, of: &Expr) {
+    out.put("(");
+    out.put(word);
+    out.put(" ");
     put_expr(out, look, of)
 }
 
 // An expression behind a blank.
 #[cycle(exprs_out)]
-fn put_next(out: &mut String, look: Look<'_>, e: &Expr) -> Result<(), AllocError> {
-    out.push_str(" ")?;
+fn put_next(out: &mut Written, look: Look<'_>, e: &Expr) {
+    out.put(" ");
     put_expr(out, look, e)
 }
 
 // A form with types, without its last bracket.
 #[cycle(exprs_out)]
-fn put_typed(out: &mut String, look: Look<'_>, form: &ExprForm) -> Result<(), AllocError> {
+fn put_typed(out: &mut Written, look: Look<'_>, form: &ExprForm) {
     match form {
         ExprForm::New { ty, args } => {
-            out.push_str("(new ")?;
-            put_type(out, look, ty)?;
+            out.put("(new ");
+            put_type(out, look, ty);
             put_exprs(out, look, args.as_slice())
         }
         ExprForm::NewArray { ty, sizes, extra } => {
-            out.push_str("(array ")?;
-            put_type(out, look, ty)?;
-            put_exprs(out, look, sizes.as_slice())?;
+            out.put("(array ");
+            put_type(out, look, ty);
+            put_exprs(out, look, sizes.as_slice());
             put_dims(out, " ", *extra)
         }
         ExprForm::NewFilled { ty, items } => {
-            out.push_str("(filled ")?;
-            put_type(out, look, ty)?;
+            out.put("(filled ");
+            put_type(out, look, ty);
             put_next(out, look, items.get())
         }
         ExprForm::Cast { ty, close, of } => {
-            out.push_str("(cast ")?;
-            put_type(out, look, ty)?;
+            out.put("(cast ");
+            put_type(out, look, ty);
             if look.places {
-                write!(out, " )@{close}")?;
+                out.put(" )@");
+                out.number(*close as u64);
             }
             put_next(out, look, of.get())
         }
         ExprForm::InstanceOf { of, ty } => {
-            put_one(out, look, "instanceof", of.get())?;
-            out.push_str(" ")?;
+            put_one(out, look, "instanceof", of.get());
+            out.put(" ");
             put_type(out, look, ty)
         }
-        _ => out.push_str("no such form"),
+        _ => out.put("no such form"),
     }
 }
 
 // A form with an operator, without its last bracket.
 #[cycle(exprs_out)]
-fn put_operator(out: &mut String, look: Look<'_>, form: &ExprForm) -> Result<(), AllocError> {
+fn put_operator(out: &mut Written, look: Look<'_>, form: &ExprForm) {
     match form {
         ExprForm::Unary { op, of } => put_one(out, look, unary(*op), of.get()),
         ExprForm::Step { up, before, of } => put_one(out, look, step(*up, *before), of.get()),
         ExprForm::Binary { op, left, right } => {
-            put_one(out, look, binary(*op), left.get())?;
+            put_one(out, look, binary(*op), left.get());
             put_next(out, look, right.get())
         }
         ExprForm::Cond { test, yes, no } => {
-            put_one(out, look, "?", test.get())?;
-            put_next(out, look, yes.get())?;
+            put_one(out, look, "?", test.get());
+            put_next(out, look, yes.get());
             put_next(out, look, no.get())
         }
         ExprForm::Assign { op, to, from } => {
-            out.push_str("(")?;
+            out.put("(");
             if let Some(op) = op {
-                out.push_str(binary(*op))?;
+                out.put(binary(*op));
             }
-            out.push_str("=")?;
-            put_next(out, look, to.get())?;
+            out.put("=");
+            put_next(out, look, to.get());
             put_next(out, look, from.get())
         }
         _ => put_typed(out, look, form),
@@ -712,33 +716,33 @@ fn put_operator(out: &mut String, look: Look<'_>, form: &ExprForm) -> Result<(),
 
 // A form with parts, without its last bracket.
 #[cycle(exprs_out)]
-fn put_parts(out: &mut String, look: Look<'_>, form: &ExprForm) -> Result<(), AllocError> {
+fn put_parts(out: &mut Written, look: Look<'_>, form: &ExprForm) {
     match form {
         ExprForm::Field { of, name } => {
-            put_one(out, look, ".", of.get())?;
-            out.push_str(" ")?;
+            put_one(out, look, ".", of.get());
+            out.put(" ");
             put_name(out, look.names, *name)
         }
         ExprForm::Index { of, at } => {
-            put_one(out, look, "at", of.get())?;
+            put_one(out, look, "at", of.get());
             put_next(out, look, at.get())
         }
         ExprForm::Call { of, name, args } => {
             match of {
-                Some(of) => put_one(out, look, "send", of.get())?,
-                None => out.push_str("(call")?,
+                Some(of) => put_one(out, look, "send", of.get()),
+                None => out.put("(call"),
             }
-            out.push_str(" ")?;
-            put_name(out, look.names, *name)?;
+            out.put(" ");
+            put_name(out, look.names, *name);
             put_exprs(out, look, args.as_slice())
         }
         ExprForm::SuperMethod { name, args } => {
-            out.push_str("(super-method ")?;
-            put_name(out, look.names, *name)?;
+            out.put("(super-method ");
+            put_name(out, look.names, *name);
             put_exprs(out, look, args.as_slice())
         }
         ExprForm::Items(items) => {
-            out.push_str("(items")?;
+            out.put("(items");
             put_exprs(out, look, items.as_slice())
         }
         ExprForm::Paren(of) => put_one(out, look, "paren", of.get()),
@@ -747,8 +751,8 @@ fn put_parts(out: &mut String, look: Look<'_>, form: &ExprForm) -> Result<(), Al
 }
 
 #[cycle(exprs_out)]
-fn put_expr(out: &mut String, look: Look<'_>, e: &Expr) -> Result<(), AllocError> {
-    put_node(out, look, e.node)?;
+fn put_expr(out: &mut Written, look: Look<'_>, e: &Expr) {
+    put_node(out, look, e.node);
     match &e.form {
         ExprForm::Number { .. }
         | ExprForm::Char(_)
@@ -759,163 +763,148 @@ fn put_expr(out: &mut String, look: Look<'_>, e: &Expr) -> Result<(), AllocError
         | ExprForm::Name(_)
         | ExprForm::SuperField(_) => put_leaf(out, look, &e.form),
         _ => {
-            put_parts(out, look, &e.form)?;
-            out.push_str(")")
+            put_parts(out, look, &e.form);
+            out.put(")")
         }
     }
 }
 
-fn put_vars(out: &mut String, look: Look<'_>, vars: &[Var]) -> Result<(), AllocError> {
+fn put_vars(out: &mut Written, look: Look<'_>, vars: &[Var]) {
     for var in vars {
-        out.push_str(" ")?;
-        put_node(out, look, var.node)?;
-        out.push_str("(")?;
-        put_name(out, look.names, var.name)?;
-        put_dims(out, "", var.dims)?;
+        out.put(" ");
+        put_node(out, look, var.node);
+        out.put("(");
+        put_name(out, look.names, var.name);
+        put_dims(out, "", var.dims);
         if let Some(init) = &var.init {
-            out.push_str(" ")?;
-            put_expr(out, look, init)?;
+            out.put(" ");
+            put_expr(out, look, init);
         }
-        out.push_str(")")?;
+        out.put(")");
     }
-    Ok(())
 }
 
 // A type behind `final` or not.
-fn put_declared(
-    out: &mut String,
-    look: Look<'_>,
-    is_final: bool,
-    ty: &TypeExpr,
-) -> Result<(), AllocError> {
+fn put_declared(out: &mut Written, look: Look<'_>, is_final: bool, ty: &TypeExpr) {
     if is_final {
-        out.push_str("final ")?;
+        out.put("final ");
     }
     put_type(out, look, ty)
 }
 
-fn put_param(out: &mut String, look: Look<'_>, param: &Param) -> Result<(), AllocError> {
-    put_node(out, look, param.node)?;
-    put_declared(out, look, param.is_final, &param.ty)?;
-    out.push_str(" ")?;
-    put_name(out, look.names, param.name)?;
+fn put_param(out: &mut Written, look: Look<'_>, param: &Param) {
+    put_node(out, look, param.node);
+    put_declared(out, look, param.is_final, &param.ty);
+    out.put(" ");
+    put_name(out, look.names, param.name);
     put_dims(out, "", param.dims)
 }
 
-fn put_labels(out: &mut String, look: Look<'_>, labels: &[Option<Expr>]) -> Result<(), AllocError> {
+fn put_labels(out: &mut Written, look: Look<'_>, labels: &[Option<Expr>]) {
     let mut later = false;
     for label in labels {
-        out.push_str(if later { " " } else { " (" })?;
+        out.put(if later { " " } else { " (" });
         match label {
-            Some(value) => put_expr(out, look, value)?,
-            None => out.push_str("default")?,
+            Some(value) => put_expr(out, look, value),
+            None => out.put("default"),
         }
         later = true;
     }
-    out.push_str(")")
+    out.put(")")
 }
 
-fn put_maybe(out: &mut String, look: Look<'_>, e: &Option<Expr>) -> Result<(), AllocError> {
+fn put_maybe(out: &mut Written, look: Look<'_>, e: &Option<Expr>) {
     if let Some(e) = e {
-        out.push_str(" ")?;
-        put_expr(out, look, e)?;
+        out.put(" ");
+        put_expr(out, look, e);
     }
-    Ok(())
 }
 
 // Expressions in brackets.
-fn put_steps(out: &mut String, look: Look<'_>, es: &[Expr]) -> Result<(), AllocError> {
+fn put_steps(out: &mut Written, look: Look<'_>, es: &[Expr]) {
     let mut later = false;
-    out.push_str(" (")?;
+    out.put(" (");
     for e in es {
-        out.push_str(if later { " " } else { "" })?;
-        put_expr(out, look, e)?;
+        out.put(if later { " " } else { "" });
+        put_expr(out, look, e);
         later = true;
     }
-    out.push_str(")")
+    out.put(")")
 }
 
 // A form without statements in it, without its last bracket.
-fn put_plain(out: &mut String, look: Look<'_>, form: &StmtForm) -> Result<(), AllocError> {
+fn put_plain(out: &mut Written, look: Look<'_>, form: &StmtForm) {
     match form {
         StmtForm::Local { is_final, ty, vars } => {
-            out.push_str("(local ")?;
-            put_declared(out, look, *is_final, ty)?;
+            out.put("(local ");
+            put_declared(out, look, *is_final, ty);
             put_vars(out, look, vars.as_slice())
         }
         StmtForm::Return(value) => {
-            out.push_str("(return")?;
+            out.put("(return");
             put_maybe(out, look, value)
         }
         StmtForm::Throw(value) => put_one(out, look, "throw", value),
         StmtForm::ThisCall(args) => {
-            out.push_str("(this-call")?;
+            out.put("(this-call");
             put_exprs(out, look, args.as_slice())
         }
         StmtForm::SuperCall(args) => {
-            out.push_str("(super-call")?;
+            out.put("(super-call");
             put_exprs(out, look, args.as_slice())
         }
-        _ => out.push_str("no such form"),
+        _ => out.put("no such form"),
     }
 }
 
 #[cycle(stmts_out)]
-fn put_stmts(
-    out: &mut String,
-    look: Look<'_>,
-    first: &str,
-    stmts: &[Stmt],
-) -> Result<(), AllocError> {
+fn put_stmts(out: &mut Written, look: Look<'_>, first: &str, stmts: &[Stmt]) {
     let mut later = false;
     for stmt in stmts {
-        out.push_str(if later { " " } else { first })?;
-        put_stmt(out, look, stmt)?;
+        out.put(if later { " " } else { first });
+        put_stmt(out, look, stmt);
         later = true;
     }
-    Ok(())
 }
 
 #[cycle(stmts_out)]
-fn put_groups(out: &mut String, look: Look<'_>, groups: &[Group]) -> Result<(), AllocError> {
+fn put_groups(out: &mut Written, look: Look<'_>, groups: &[Group]) {
     for group in groups {
-        out.push_str(" ")?;
-        put_node(out, look, group.node)?;
-        out.push_str("(group")?;
-        put_labels(out, look, group.labels.as_slice())?;
-        put_stmts(out, look, " ", group.body.as_slice())?;
-        out.push_str(")")?;
+        out.put(" ");
+        put_node(out, look, group.node);
+        out.put("(group");
+        put_labels(out, look, group.labels.as_slice());
+        put_stmts(out, look, " ", group.body.as_slice());
+        out.put(")");
     }
-    Ok(())
 }
 
 #[cycle(stmts_out)]
-fn put_catches(out: &mut String, look: Look<'_>, catches: &[Catch]) -> Result<(), AllocError> {
+fn put_catches(out: &mut Written, look: Look<'_>, catches: &[Catch]) {
     for caught in catches {
-        out.push_str(" ")?;
-        put_node(out, look, caught.node)?;
-        out.push_str("(catch ")?;
-        put_param(out, look, &caught.param)?;
-        out.push_str(" ")?;
-        put_stmt(out, look, caught.body.get())?;
-        out.push_str(")")?;
+        out.put(" ");
+        put_node(out, look, caught.node);
+        out.put("(catch ");
+        put_param(out, look, &caught.param);
+        out.put(" ");
+        put_stmt(out, look, caught.body.get());
+        out.put(")");
     }
-    Ok(())
 }
 
 // A loop, without its last bracket.
 #[cycle(stmts_out)]
-fn put_loop(out: &mut String, look: Look<'_>, form: &StmtForm) -> Result<(), AllocError> {
+fn put_loop(out: &mut Written, look: Look<'_>, form: &StmtForm) {
     match form {
         StmtForm::While { test, body } => {
-            put_one(out, look, "while", test)?;
-            out.push_str(" ")?;
+            put_one(out, look, "while", test);
+            out.put(" ");
             put_stmt(out, look, body.get())
         }
         StmtForm::Do { body, test } => {
-            out.push_str("(do ")?;
-            put_stmt(out, look, body.get())?;
-            out.push_str(" ")?;
+            out.put("(do ");
+            put_stmt(out, look, body.get());
+            out.put(" ");
             put_expr(out, look, test)
         }
         StmtForm::For {
@@ -924,15 +913,15 @@ fn put_loop(out: &mut String, look: Look<'_>, form: &StmtForm) -> Result<(), All
             step,
             body,
         } => {
-            out.push_str("(for (")?;
-            put_stmts(out, look, "", init.as_slice())?;
-            out.push_str(")")?;
+            out.put("(for (");
+            put_stmts(out, look, "", init.as_slice());
+            out.put(")");
             match test {
-                Some(_) => put_maybe(out, look, test)?,
-                None => out.push_str(" -")?,
+                Some(_) => put_maybe(out, look, test),
+                None => out.put(" -"),
             }
-            put_steps(out, look, step.as_slice())?;
-            out.push_str(" ")?;
+            put_steps(out, look, step.as_slice());
+            out.put(" ");
             put_stmt(out, look, body.get())
         }
         _ => put_plain(out, look, form),
@@ -941,21 +930,20 @@ fn put_loop(out: &mut String, look: Look<'_>, form: &StmtForm) -> Result<(), All
 
 // A form with parts, without its last bracket.
 #[cycle(stmts_out)]
-fn put_stmt_parts(out: &mut String, look: Look<'_>, form: &StmtForm) -> Result<(), AllocError> {
+fn put_stmt_parts(out: &mut Written, look: Look<'_>, form: &StmtForm) {
     match form {
         StmtForm::Block(stmts) => {
-            out.push_str("(block")?;
+            out.put("(block");
             put_stmts(out, look, " ", stmts.as_slice())
         }
         StmtForm::If { test, yes, no } => {
-            put_one(out, look, "if", test)?;
-            out.push_str(" ")?;
-            put_stmt(out, look, yes.get())?;
+            put_one(out, look, "if", test);
+            out.put(" ");
+            put_stmt(out, look, yes.get());
             if let Some(no) = no {
-                out.push_str(" ")?;
-                put_stmt(out, look, no.get())?;
+                out.put(" ");
+                put_stmt(out, look, no.get());
             }
-            Ok(())
         }
         StmtForm::ForEach {
             is_final,
@@ -964,17 +952,17 @@ fn put_stmt_parts(out: &mut String, look: Look<'_>, form: &StmtForm) -> Result<(
             over,
             body,
         } => {
-            out.push_str("(each ")?;
-            put_declared(out, look, *is_final, ty)?;
-            out.push_str(" ")?;
-            put_name(out, look.names, *name)?;
-            out.push_str(" ")?;
-            put_expr(out, look, over)?;
-            out.push_str(" ")?;
+            out.put("(each ");
+            put_declared(out, look, *is_final, ty);
+            out.put(" ");
+            put_name(out, look.names, *name);
+            out.put(" ");
+            put_expr(out, look, over);
+            out.put(" ");
             put_stmt(out, look, body.get())
         }
         StmtForm::Switch { on, groups } => {
-            put_one(out, look, "switch", on)?;
+            put_one(out, look, "switch", on);
             put_groups(out, look, groups.as_slice())
         }
         StmtForm::Try {
@@ -982,31 +970,30 @@ fn put_stmt_parts(out: &mut String, look: Look<'_>, form: &StmtForm) -> Result<(
             catches,
             last,
         } => {
-            out.push_str("(try ")?;
-            put_stmt(out, look, body.get())?;
-            put_catches(out, look, catches.as_slice())?;
+            out.put("(try ");
+            put_stmt(out, look, body.get());
+            put_catches(out, look, catches.as_slice());
             if let Some(last) = last {
-                out.push_str(" (finally ")?;
-                put_stmt(out, look, last.get())?;
-                out.push_str(")")?;
+                out.put(" (finally ");
+                put_stmt(out, look, last.get());
+                out.put(")");
             }
-            Ok(())
         }
         _ => put_loop(out, look, form),
     }
 }
 
 #[cycle(stmts_out)]
-fn put_stmt(out: &mut String, look: Look<'_>, stmt: &Stmt) -> Result<(), AllocError> {
-    put_node(out, look, stmt.node)?;
+fn put_stmt(out: &mut Written, look: Look<'_>, stmt: &Stmt) {
+    put_node(out, look, stmt.node);
     match &stmt.form {
-        StmtForm::Empty => out.push_str("empty"),
+        StmtForm::Empty => out.put("empty"),
         StmtForm::Value(value) => put_expr(out, look, value),
-        StmtForm::Break => out.push_str("break"),
-        StmtForm::Continue => out.push_str("continue"),
+        StmtForm::Break => out.put("break"),
+        StmtForm::Continue => out.put("continue"),
         _ => {
-            put_stmt_parts(out, look, &stmt.form)?;
-            out.push_str(")")
+            put_stmt_parts(out, look, &stmt.form);
+            out.put(")")
         }
     }
 }
@@ -1046,7 +1033,7 @@ fn read(
     if tokens.len() > 10_000 {
         return Err(SyntaxFault::NoMemory);
     }
-    let mut out = String::new(alloc);
+    let mut out = Written::new(alloc);
     let next = match call {
         Call::Expr => {
             let (tree, next) = parse_expr(alloc, text, tokens, at, depth, first, &mut names)?;
@@ -1057,7 +1044,7 @@ fn read(
                     places,
                 },
                 &tree,
-            )?;
+            );
             next
         }
         Call::Init => {
@@ -1069,7 +1056,7 @@ fn read(
                     places,
                 },
                 &tree,
-            )?;
+            );
             next
         }
         Call::Type => {
@@ -1081,7 +1068,7 @@ fn read(
                     places,
                 },
                 &tree,
-            )?;
+            );
             next
         }
         Call::Stmt => {
@@ -1093,14 +1080,14 @@ fn read(
                     places,
                 },
                 &tree,
-            )?;
+            );
             next
         }
     };
     if next != tokens.len() {
-        out.push_str(" and more")?;
+        out.put(" and more");
     }
-    Ok(out)
+    out.text().ok_or(SyntaxFault::NoMemory)
 }
 
 /// A text with another before and behind it so many times.
