@@ -15,8 +15,8 @@ use Rattle.seen_methods.specs.Closed.{HasClosedParams}
 use Rattle.seen_methods.proofs.Belows.{one_params}
 use Rattle.member_methods.specs.Methods.{AreMembers}
 use Rattle.inherited_rules.specs.Rules.{HasClash, HaveOneErasure, IsInherited}
-use Rattle.inherited_rules.specs.Numbers.{AreErased, AreLike, AreSingle}
-use Rattle.inherited_rules.proofs.Members.{member_seen, signature_params}
+use Rattle.inherited_rules.specs.Numbers.{AreErased, AreLike, AreSingle, IsAlone, IsClosedOrAlone}
+use Rattle.inherited_rules.proofs.Members.{member_seen, signature_namesakes, signature_params}
 use Rattle.inherited_rules.proofs.Named.{lower_or_last}
 
 one_first : (m k : ℕ) → (m < k) ⊎ (m ≡ k) ⊎ (k < m)
@@ -91,16 +91,16 @@ module _ (w : World) (numbers : List ℕ) (erasures : AreErased w numbers) where
         ]
 
     -- one of a new number
-    pub single_more : (i m n : ℕ) (has new : ℕ → Bool) → slice_get ms i ≡ Some m → slice_get numbers m ≡ Some n → has n ≡ false → ((q : ℕ) → new q ≡ cond (nat_eq n q) true (has q)) → HasClosedParams w m
+    pub single_more : (i m n : ℕ) (has new : ℕ → Bool) → slice_get ms i ≡ Some m → slice_get numbers m ≡ Some n → has n ≡ false → ((q : ℕ) → new q ≡ cond (nat_eq n q) true (has q)) → IsClosedOrAlone w c m
         → AreSingle w c numbers ms i has → AreSingle w c numbers ms (i + 1) new
-    single_more i m n has new at number fresh puts no_variables old = record {
+    single_more i m n has new at number fresh puts settled old = record {
       held = λ j x q lt at_j other number_x. elim (lower_or_last j i lt) [
         | inl before ↦ puts q ∙ more (nat_eq n q) (has q) (old.held j x q before at_j other number_x)
         | inr last ↦ puts q ∙ cond-true _ _ _ (eq-eqb n q (sym (same_number x q (same_at j x last at_j) number_x)))
       ];
       closed = λ j x lt at_j other. elim (lower_or_last j i lt) [
         | inl before ↦ old.closed j x before at_j other
-        | inr last ↦ subst (HasClosedParams w) (sym (same_at j x last at_j)) no_variables
+        | inr last ↦ subst (IsClosedOrAlone w c) (sym (same_at j x last at_j)) settled
       ];
       apart = λ j l x y q less lt at_j at_l other_x other_y number_x number_y. elim (lower_or_last l i lt) [
         | inl before ↦ old.apart j l x y q less before at_j at_l other_x other_y number_x number_y
@@ -122,14 +122,32 @@ module _ (w : World) (numbers : List ℕ) (erasures : AreErased w numbers) where
         more true x on = refl
         more false x on = on
 
+    -- of two members of one signature one that is alone is the other
+    alone_same : (m k : ℕ) → IsAlone w c m → IsMemberMethod w c k → HaveOneSignatureIn w c m k → k ≡ m
+    alone_same m k alone member one = let both = signature_namesakes w c m k one in alone both.0 both.2 k (member, (both.1, both.3, sym both.4, sym both.5))
+
+    -- two members of one signature have one number
+    settled_number : (m k a b : ℕ) → HaveOneSignatureIn w c m k → IsMemberMethod w c m → IsMemberMethod w c k → IsClosedOrAlone w c m → IsClosedOrAlone w c k → slice_get numbers m ≡ Some a → slice_get numbers k ≡ Some b
+        → a ≡ b
+    settled_number m k a b one member_m member_k settled_m settled_k at_m at_k = elim settled_m [
+      | inr alone_m ↦ of_same (alone_same m k alone_m member_k one)
+      | inl closed_m ↦ elim settled_k [
+        | inr alone_k ↦ of_same (sym (alone_same k m alone_k member_m (signature_swap w c m k one)))
+        | inl closed_k ↦ closed_number c m k a b one closed_m closed_k at_m at_k
+      ]
+    ]
+      where
+        of_same : k ≡ m → a ≡ b
+        of_same same = let both : Some a ≡ Some b = sym at_m ∙ ap (slice_get numbers) (sym same) ∙ at_k in cc both
+
     -- two members, the first before the second
-    single_before : (i j l m k : ℕ) (has : ℕ → Bool) → AreSingle w c numbers ms i has → j < l → l < i → slice_get ms j ≡ Some m → slice_get ms l ≡ Some k → (DeclaresMethod w c m → ⊥) → (DeclaresMethod w c k → ⊥)
+    single_before : (i j l m k : ℕ) (has : ℕ → Bool) → AreSingle w c numbers ms i has → j < l → l < i → slice_get ms j ≡ Some m → slice_get ms l ≡ Some k → IsInherited w c m → IsInherited w c k
         → HaveOneSignatureIn w c m k → ⊥
-    single_before i j l m k has single less lt at_m at_k other_m other_k one =
+    single_before i j l m k has single less lt at_m at_k in_m in_k one =
         let a = number_of m one.0.0 one.0.2.0 in
         let b = number_of k one.0.1 one.0.3.0 in
-        let same = closed_number c m k a.0 b.0 one (single.closed j m (omega (arith, less, lt)) at_m other_m) (single.closed l k lt at_k other_k) a.1 b.1 in
-        single.apart j l m k a.0 less lt at_m at_k other_m other_k a.1 (b.1 ∙ ap Some (sym same))
+        let same = settled_number m k a.0 b.0 one in_m.0 in_k.0 (single.closed j m (omega (arith, less, lt)) at_m in_m.1) (single.closed l k lt at_k in_k.1) a.1 b.1 in
+        single.apart j l m k a.0 less lt at_m at_k in_m.1 in_k.1 a.1 (b.1 ∙ ap Some (sym same))
 
     -- no two have one signature
     pub single_told : (i : ℕ) (has : ℕ → Bool) → AreMembers w c ms → AreSingle w c numbers ms i has → length ms ≤ i → (m k : ℕ) → IsInherited w c m → IsInherited w c k → HaveOneSignatureIn w c m k → m ≡ k
@@ -137,9 +155,9 @@ module _ (w : World) (numbers : List ℕ) (erasures : AreErased w numbers) where
         let at_m = place_of ms m ((members m).1 inherits_m.0) in
         let at_k = place_of ms k ((members k).1 inherits_k.0) in
         elim (one_first at_m.0 at_k.0) [
-          | inl before ↦ absurd (single_before i at_m.0 at_k.0 m k has single before (omega (arith, at_k.1, le)) at_m.2 at_k.2 inherits_m.1 inherits_k.1 one)
+          | inl before ↦ absurd (single_before i at_m.0 at_k.0 m k has single before (omega (arith, at_k.1, le)) at_m.2 at_k.2 inherits_m inherits_k one)
           | inr (inl same) ↦ let both : Some m ≡ Some k = sym at_m.2 ∙ ap (slice_get ms) same ∙ at_k.2 in cc both
-          | inr (inr behind) ↦ absurd (single_before i at_k.0 at_m.0 k m has single behind (omega (arith, at_m.1, le)) at_k.2 at_m.2 inherits_k.1 inherits_m.1 (signature_swap w c m k one))
+          | inr (inr behind) ↦ absurd (single_before i at_k.0 at_m.0 k m has single behind (omega (arith, at_m.1, le)) at_k.2 at_m.2 inherits_k inherits_m (signature_swap w c m k one))
         ]
 
   -- ---- clashes

@@ -8,38 +8,42 @@ ghost use Rattle.class_world.specs.declared.world.JavaType as types;
 ghost use Rattle.class_world.specs.Sound.{IsSound};
 ghost use Rattle.class_world.specs.Typed.{HaveTypes};
 ghost use Rattle.class_world.specs.Signatures.{HaveOneSignatureIn};
-ghost use Rattle.member_methods.specs.Methods.{AreMembers};
+ghost use Rattle.class_world.specs.Inheritance.{IsMemberMethod};
+ghost use Rattle.member_methods.specs.Methods.{AreMembers, HoldsMethods};
 ghost use Rattle.numbered_methods.specs.Alike.{IsNumbered};
 ghost use Rattle.seen_methods.specs.Seen.{HasResult};
 ghost use Rattle.inherited_rules.specs.Rules.{HasUnlikeResults, IsInherited};
-ghost use Rattle.inherited_rules.specs.Numbers.{AreErased};
+ghost use Rattle.inherited_rules.specs.Numbers.{AreErased, IsClosedOrAlone};
 ghost use Rattle.inherited_rules.specs.Parts.{AreJudged, AreUnlike, HasUnlikePair, IsJudged, IsUnlike};
 ghost use Rattle.inherited_rules.specs.Chains.{AreKept, IsAmong};
 
 use crate::chain::Results;
-use crate::methods::{ascending, declares};
+use crate::methods::{ascending, declares, method_of};
 use class_world::World;
 use java_tree::NoMemory;
+use member_methods::MethodLists;
 use numbered_methods::NumberedMethods;
 use seen_methods::{has_closed_params, seen_result};
 use std::alloc::Global;
 use std::collections::HashSet;
 
-/// Whether the type has two methods of one signature that it does not itself declare, and neither result fits the other. Where two of these members have one erased signature, by these numbers, or one has type variables in its parameter types, they are numbered by their signatures, and those of one signature are judged together.
+/// Whether the type has two methods of one signature that it does not itself declare, and neither result fits the other. Where two of these members have one erased signature, by these numbers, or one has type variables in its parameter types and is not the type's only member of its name and number of parameters, they are numbered by their signatures, and those of one signature are judged together.
 pub(crate) fn has_unlike_results(
     alloc: Global,
     w: &World,
+    lists: &MethodLists,
     numbers: &[u32],
     c: u32,
     members: &[u32],
 ) -> Result<bool, NoMemory>
     requires sound { IsSound w.now }
     requires typed { HaveTypes w.now }
+    requires lists { HoldsMethods w.now lists.now }
     requires numbers { AreErased w.now numbers.now }
     requires members { AreMembers w.now c members.now }
     ensures { IfOk result (λ r. IsTrue r ↔ HasUnlikeResults w.now c) }
 {
-    if !may_meet(alloc, w, numbers, c, members)? {
+    if !may_meet(alloc, w, lists, numbers, c, members)? {
         return Ok(false);
     }
     let inherited = inherited_of(alloc, w, c, members)?;
@@ -49,14 +53,16 @@ pub(crate) fn has_unlike_results(
     Ok(found)
 }
 
-/// Tells of most types that no two methods that they inherit have one signature: no two have one erased signature, and none has type variables in its parameter types.
+/// Tells of most types that no two methods that they inherit have one signature: no two have one erased signature, and each that has type variables in its parameter types is the type's only member of its name and number of parameters.
 fn may_meet(
     alloc: Global,
     w: &World,
+    lists: &MethodLists,
     numbers: &[u32],
     c: u32,
     members: &[u32],
 ) -> Result<bool, NoMemory>
+    requires lists { HoldsMethods w.now lists.now }
     requires numbers { AreErased w.now numbers.now }
     requires members { AreMembers w.now c members.now }
     ensures { IfOk result (λ r. (m k : ℕ) → IsInherited w.now c m → IsInherited w.now c k → HaveOneSignatureIn w.now c m k → (m ≡ k) ⊎ IsTrue r) }
@@ -65,12 +71,27 @@ fn may_meet(
     for m in members {
         if !declares(w, c, *m) {
             let is_new = seen.insert(numbers[*m as usize])?;
-            if !is_new || !has_closed_params(w, *m) {
+            if !is_new || may_meet_namesake(w, lists, c, *m) {
                 return Ok(true);
             }
         }
     }
     Ok(false)
+}
+
+/// Whether the type's member has type variables in its parameter types, and is not the only one of its name and number of parameters. Two of which it is false have one signature only where they have one erased signature.
+fn may_meet_namesake(w: &World, lists: &MethodLists, c: u32, m: u32) -> bool
+    requires lists { HoldsMethods w.now lists.now }
+    requires member { IsMemberMethod w.now c m }
+    ensures { (IsTrue result → ⊥) → IsClosedOrAlone w.now c m }
+{
+    if has_closed_params(w, m) {
+        return false;
+    }
+    match method_of(w, m) {
+        Some(info) => lists.named(c, info.name, info.params.len()).len() > 1,
+        None => false,
+    }
 }
 
 /// Those of the type's members that it does not itself declare, ascending.

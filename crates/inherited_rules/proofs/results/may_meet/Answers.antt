@@ -3,7 +3,7 @@ use Rattle.std.specs.HashSet.{contains}
 use Rattle.inherited_rules.proofs.Named.{has_item, item_at}
 use Rattle.inherited_rules.proofs.Pairs.{member_within, single_none, single_more, single_skip, single_told}
 use Rattle.inherited_rules.proofs.results.may_meet.Goals as goal
-use Rattle.inherited_rules.proofs.results.may_meet.Goals.{then-not-declares+in_ok-is_new+else-not-is_new+else-not-has_closed_params, else-not-declares}
+use Rattle.inherited_rules.proofs.results.may_meet.Goals.{then-not-declares+in_ok-is_new+else-not-is_new+else-may_meet_namesake, else-not-declares}
 
 not_there : (has new : Bool) → new ≡ not has → new ≡ true → has ≡ false
 not_there true new is on = cc (is, on)
@@ -26,11 +26,11 @@ loop-m-preserved c =
     let at = item_at ms i c.loop-m-test.true in
     let has = contains nat_eq c.loop-m.seen in
     elim c.if-not-declares.branch [
-      | then-not-declares+in_ok-is_new+else-not-is_new+else-not-has_closed_params v ↦
+      | then-not-declares+in_ok-is_new+else-not-is_new+else-may_meet_namesake v ↦
           let number = item_at numbers m (member_within w numbers c.requires.numbers c.args.c ms c.requires.members m (has_item ms i c.loop-m-test.true)) in
           let fresh = not_there (has n) v.in_ok-is_new.is_new v.in_ok-is_new.ensures.added v.if-not-is_new.false in
           rw v.seen-is (single_more w numbers c.requires.numbers c.args.c ms i m n has (contains nat_eq v.insert.new.self) at number fresh v.in_ok-is_new.ensures.updates.0
-          (v.has_closed_params.ensures v.if-not-has_closed_params.false) c.loop-m.invariant)
+          (v.may_meet_namesake.ensures (λ met. cc (met, v.if-may_meet_namesake.false))) c.loop-m.invariant)
       | else-not-declares v ↦ rw v.seen-is (single_skip w numbers c.requires.numbers c.args.c ms i m has at (c.declares.ensures.0 v.if-not-declares.false) c.loop-m.invariant)
     ]
 
