@@ -1,10 +1,12 @@
 //! The sorts of words and operators, by their texts.
 
-ghost use Rattle.std.specs.Prelude.{◌≡◌};
+ghost use Rattle.std.specs.Prelude.{◌≡◌, drop};
 ghost use Rattle.java_grammar.specs.Sorts as spec;
 
 use crate::token::{Keyword, Mark, Sort};
 use java_tree::tree::{BinOp, Kind};
+
+// A list is gone through in stretches, each by a function that leaves the rest to the next: the proof of a match grows with the square of its arms.
 
 /// The sort of a word that is no identifier.
 fn keyword_sort(word: &str) -> Sort
@@ -21,6 +23,16 @@ fn keyword_sort(word: &str) -> Sort
         "continue" => Keyword::Continue,
         "default" => Keyword::Default,
         "do" => Keyword::Do,
+        _ => return sort_past_do(word),
+    };
+    Sort::Keyword(keyword)
+}
+
+/// The sort of such a word that stands behind `do` in the list.
+fn sort_past_do(word: &str) -> Sort
+    ensures { result ≡ spec.sort_in (drop 10 spec.keywords) word.now }
+{
+    let keyword = match word {
         "else" => Keyword::Else,
         "extends" => Keyword::Extends,
         "false" => Keyword::False,
@@ -31,6 +43,16 @@ fn keyword_sort(word: &str) -> Sort
         "implements" => Keyword::Implements,
         "import" => Keyword::Import,
         "instanceof" => Keyword::InstanceOf,
+        _ => return sort_past_instanceof(word),
+    };
+    Sort::Keyword(keyword)
+}
+
+/// The sort of one behind `instanceof`.
+fn sort_past_instanceof(word: &str) -> Sort
+    ensures { result ≡ spec.sort_in (drop 20 spec.keywords) word.now }
+{
+    let keyword = match word {
         "int" => Keyword::Int,
         "interface" => Keyword::Interface,
         "long" => Keyword::Long,
@@ -41,6 +63,16 @@ fn keyword_sort(word: &str) -> Sort
         "protected" => Keyword::Protected,
         "public" => Keyword::Public,
         "return" => Keyword::Return,
+        _ => return sort_past_return(word),
+    };
+    Sort::Keyword(keyword)
+}
+
+/// The sort of one behind `return`.
+fn sort_past_return(word: &str) -> Sort
+    ensures { result ≡ spec.sort_in (drop 30 spec.keywords) word.now }
+{
+    let keyword = match word {
         "static" => Keyword::Static,
         "super" => Keyword::Super,
         "switch" => Keyword::Switch,
@@ -70,12 +102,30 @@ fn operator_sort(word: &str) -> Sort
         ";" => Sort::Mark(Mark::Semicolon),
         "," => Sort::Mark(Mark::Comma),
         "." => Sort::Mark(Mark::Dot),
+        _ => sort_past_separators(word),
+    }
+}
+
+/// The sort of an operator.
+fn sort_past_separators(word: &str) -> Sort
+    ensures { result ≡ spec.sort_in (drop 9 spec.operators) word.now }
+{
+    match word {
         "?" => Sort::Mark(Mark::Question),
         ":" => Sort::Mark(Mark::Colon),
         "!" => Sort::Mark(Mark::Not),
         "~" => Sort::Mark(Mark::Invert),
         "++" => Sort::Step(true),
         "--" => Sort::Step(false),
+        _ => sort_past_steps(word),
+    }
+}
+
+/// The sort of an infix operator or an assignment.
+fn sort_past_steps(word: &str) -> Sort
+    ensures { result ≡ spec.sort_in (drop 15 spec.operators) word.now }
+{
+    match word {
         "||" => Sort::Infix(BinOp::LogicOr),
         "&&" => Sort::Infix(BinOp::LogicAnd),
         "|" => Sort::Infix(BinOp::BitOr),
@@ -83,6 +133,15 @@ fn operator_sort(word: &str) -> Sort
         "&" => Sort::Infix(BinOp::BitAnd),
         "==" => Sort::Infix(BinOp::Equal),
         "!=" => Sort::Infix(BinOp::NotEqual),
+        _ => sort_past_equality(word),
+    }
+}
+
+/// The sort of one from the comparisons by size on.
+fn sort_past_equality(word: &str) -> Sort
+    ensures { result ≡ spec.sort_in (drop 22 spec.operators) word.now }
+{
+    match word {
         "<" => Sort::Infix(BinOp::Less),
         ">" => Sort::Infix(BinOp::Greater),
         "<=" => Sort::Infix(BinOp::LessEqual),
@@ -93,6 +152,15 @@ fn operator_sort(word: &str) -> Sort
         "*" => Sort::Infix(BinOp::Mul),
         "/" => Sort::Infix(BinOp::Div),
         "%" => Sort::Infix(BinOp::Rem),
+        _ => assignment_sort(word),
+    }
+}
+
+/// The sort of an assignment.
+fn assignment_sort(word: &str) -> Sort
+    ensures { result ≡ spec.sort_in (drop 32 spec.operators) word.now }
+{
+    match word {
         "=" => Sort::Assign(None),
         "|=" => Sort::Assign(Some(BinOp::BitOr)),
         "^=" => Sort::Assign(Some(BinOp::BitXor)),

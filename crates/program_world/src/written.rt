@@ -18,7 +18,8 @@ use written_types::{Scope, read_type};
 fn read(alloc: Global, scope: &Scope<'_>, x: &TypeExpr) -> Result<JavaType, NoMemory>
     ensures { (p : Place) → IsPlace scope.now p → IfOk result (λ ty. ty ≡ spec.read p (type_plain x.now)) }
 {
-    Ok(read_type(alloc, scope, x)?.unwrap_or(JavaType::Null))
+    let written = read_type(alloc, scope, x)?;
+    Ok(written.unwrap_or(JavaType::Null))
 }
 
 /// The type that a member declares, by the written type and the array levels behind the member's name. It is always a type of the world: the null type where an argument within it is no reference type (JLS 4.5.1), as in no tree of the grammar.
