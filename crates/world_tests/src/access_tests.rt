@@ -1,5 +1,6 @@
 //! Members of `class A` in one package, looked at from A, from `class B` of its package and from `class C` of another, which has `interface I` too.
 
+use crate::worlds::empty;
 use class_world::{Declared, FieldInfo, JavaType, MethodInfo, TypeInfo, World, sees};
 use java_tree::tree::{Mod, Name, Primitive};
 use java_tree::{Items, NoMemory};
@@ -52,35 +53,52 @@ fn field(alloc: Global, owner: u32, mods: &[Mod]) -> Result<FieldInfo, NoMemory>
     })
 }
 
-/// Of methods and of fields a private one, one without an access modifier, a protected and a public one in A, and one of I.
+/// The packages of A, B, C and I, and which of these is an interface.
+const TYPES: [(Name, bool); 4] = [
+    (Name(1), false),
+    (Name(1), false),
+    (Name(2), false),
+    (Name(2), true),
+];
+
+/// The owners and modifiers of the methods, and of the fields too: a private one, one without an access modifier, a protected and a public one in A, and one of I.
+const MEMBERS: [(u32, &[Mod]); 5] = [
+    (A, &[Mod::Static, Mod::Private]),
+    (A, &[Mod::Static]),
+    (A, &[Mod::Protected]),
+    (A, &[Mod::Final, Mod::Public]),
+    (I, &[]),
+];
+
+/// From which of A, B, C and I each of the members is seen.
+const SEEN_FROM: [[bool; 4]; 5] = [
+    [true, false, false, false],
+    [true, true, false, false],
+    [true, true, false, false],
+    [true, true, true, true],
+    [true, true, true, true],
+];
+
+fn add_types(alloc: Global, w: &mut World) -> Result<(), NoMemory> {
+    for (package, interface) in TYPES.as_slice() {
+        w.types.push(in_package(alloc, *package, *interface)?)?;
+    }
+    Ok(())
+}
+
+fn add_members(alloc: Global, w: &mut World) -> Result<(), NoMemory> {
+    for (owner, mods) in MEMBERS.as_slice() {
+        w.methods.push(method(alloc, *owner, *mods)?)?;
+        w.fields.push(field(alloc, *owner, *mods)?)?;
+    }
+    Ok(())
+}
+
 fn sample(alloc: Global) -> Result<World, NoMemory> {
-    let types = vec![in alloc;
-        in_package(alloc, Name(1), false)?,
-        in_package(alloc, Name(1), false)?,
-        in_package(alloc, Name(2), false)?,
-        in_package(alloc, Name(2), true)?,
-    ]?;
-    let methods = vec![in alloc;
-        method(alloc, A, &[Mod::Static, Mod::Private])?,
-        method(alloc, A, &[Mod::Static])?,
-        method(alloc, A, &[Mod::Protected])?,
-        method(alloc, A, &[Mod::Final, Mod::Public])?,
-        method(alloc, I, &[])?,
-    ]?;
-    let fields = vec![in alloc;
-        field(alloc, A, &[Mod::Static, Mod::Private])?,
-        field(alloc, A, &[Mod::Static])?,
-        field(alloc, A, &[Mod::Protected])?,
-        field(alloc, A, &[Mod::Final, Mod::Public])?,
-        field(alloc, I, &[])?,
-    ]?;
-    Ok(World {
-        types: Items::from_vec(types),
-        methods: Items::from_vec(methods),
-        fields: Items::from_vec(fields),
-        walk: None,
-        above: Items::new(alloc),
-    })
+    let mut w = empty(alloc);
+    add_types(alloc, &mut w)?;
+    add_members(alloc, &mut w)?;
+    Ok(w)
 }
 
 /// From which of A, B, C and I a member is seen.
@@ -96,46 +114,18 @@ fn seen_from(w: &World, member: Declared) -> [bool; 4] {
 #[test]
 fn methods_are_seen_as_their_modifiers_say(rt: HostRuntime) -> Result<(), Fail> {
     let w = sample(rt.alloc())?;
-    assert_eq!(rt;
-        seen_from(&w, Declared::Method(0)),
-        [true, false, false, false]
-    );
-    assert_eq!(rt;
-        seen_from(&w, Declared::Method(1)),
-        [true, true, false, false]
-    );
-    assert_eq!(rt;
-        seen_from(&w, Declared::Method(2)),
-        [true, true, false, false]
-    );
-    assert_eq!(rt;
-        seen_from(&w, Declared::Method(3)),
-        [true, true, true, true]
-    );
-    assert_eq!(rt;
-        seen_from(&w, Declared::Method(4)),
-        [true, true, true, true]
-    );
+    for (m, seen) in (0..5).zip(SEEN_FROM.as_slice()) {
+        assert_eq!(rt; seen_from(&w, Declared::Method(m)), *seen, "method {m}");
+    }
     Ok(())
 }
 
 #[test]
 fn fields_are_seen_as_their_modifiers_say(rt: HostRuntime) -> Result<(), Fail> {
     let w = sample(rt.alloc())?;
-    assert_eq!(rt;
-        seen_from(&w, Declared::Field(0)),
-        [true, false, false, false]
-    );
-    assert_eq!(rt;
-        seen_from(&w, Declared::Field(1)),
-        [true, true, false, false]
-    );
-    assert_eq!(rt;
-        seen_from(&w, Declared::Field(2)),
-        [true, true, false, false]
-    );
-    assert_eq!(rt; seen_from(&w, Declared::Field(3)), [true, true, true, true]);
-    assert_eq!(rt; seen_from(&w, Declared::Field(4)), [true, true, true, true]);
+    for (f, seen) in (0..5).zip(SEEN_FROM.as_slice()) {
+        assert_eq!(rt; seen_from(&w, Declared::Field(f)), *seen, "field {f}");
+    }
     Ok(())
 }
 

@@ -5,6 +5,7 @@ ghost use Rattle.class_world.specs.Types.{IsTypeOver};
 ghost use Rattle.class_world.specs.Sound.{IsSound};
 ghost use Rattle.class_world.specs.Names.{ListsMethods};
 ghost use Rattle.class_world.specs.Subclasses.{IsClassTree};
+ghost use Rattle.class_world.specs.Tables.{Indexes};
 ghost use Rattle.class_world.specs.declared.world.JavaType.TheVariants as ty;
 
 use crate::sound_worlds::{self, are_fine, is_type};
@@ -85,17 +86,54 @@ fn sample(alloc: Global) -> Result<World, NoMemory>
     Ok(world(alloc, types, methods))
 }
 
+fn have_superclasses(w: &World) -> bool
+    requires { IsClassTree w.now }
+{
+    superclass(w, 2) == Some(1) && superclass(w, 0) == None
+}
+
+fn are_below(w: &World) -> bool
+    requires { IsClassTree w.now }
+{
+    is_sub_class(w, 2, 0) && !is_sub_class(w, 0, 2) && is_below(w, 2, 1) && !is_below(w, 1, 1)
+}
+
 #[test]
 fn a_class_is_below_those_above_it(rt: HostRuntime) -> Result<(), Fail> {
     let alloc = rt.alloc();
     let w = sample(alloc)?;
-    assert_eq!(rt; superclass(&w, 2), Some(1));
-    assert_eq!(rt; superclass(&w, 0), None);
-    assert!(rt; is_sub_class(&w, 2, 0));
-    assert!(rt; !is_sub_class(&w, 0, 2));
-    assert!(rt; is_below(&w, 2, 1));
-    assert!(rt; !is_below(&w, 1, 1));
+    assert!(rt; have_superclasses(&w));
+    assert!(rt; are_below(&w));
     Ok(())
+}
+
+/// Classes, names and the methods that the classes declare.
+const DECLARED: &[(u32, u32, Option<u32>)] = &[(1, 0, Some(0)), (2, 1, None)];
+
+/// Classes, names and the methods that calls choose.
+const CHOSEN: &[(u32, u32, Option<u32>)] = &[(2, 0, Some(2)), (2, 1, Some(1)), (0, 0, None)];
+
+/// The first wrong method of the table.
+fn wrong_entry(table: &MethodTable) -> Option<usize> {
+    for (i, (c, name, method)) in DECLARED.iter().enumerate() {
+        if table.get(*c, Name(*name)) != *method {
+            return Some(i);
+        }
+    }
+    None
+}
+
+/// The first call for which a wrong method is chosen.
+fn wrong_call(w: &World, table: &MethodTable) -> Option<usize>
+    requires tree { IsClassTree w.now }
+    requires indexed { Indexes table.now w.now }
+{
+    for (i, (c, name, method)) in CHOSEN.iter().enumerate() {
+        if find_method(w, table, *c, Name(*name)) != *method {
+            return Some(i);
+        }
+    }
+    None
 }
 
 #[test]
@@ -103,12 +141,15 @@ fn a_call_chooses_the_nearest_method(rt: HostRuntime) -> Result<(), Fail> {
     let alloc = rt.alloc();
     let w = sample(alloc)?;
     let table = MethodTable::of(alloc, &w)?.ok_or("no table")?;
-    assert_eq!(rt; table.get(1, Name(0)), Some(0));
-    assert_eq!(rt; table.get(2, Name(1)), None);
-    assert_eq!(rt; find_method(&w, &table, 2, Name(0)), Some(2));
-    assert_eq!(rt; find_method(&w, &table, 2, Name(1)), Some(1));
-    assert_eq!(rt; find_method(&w, &table, 0, Name(0)), None);
-    let flags = member_names(alloc, &w, 2, 3)?;
+    assert_eq!(rt; wrong_entry(&table), None);
+    assert_eq!(rt; wrong_call(&w, &table), None);
+    Ok(())
+}
+
+#[test]
+fn names_of_the_methods_that_a_class_has(rt: HostRuntime) -> Result<(), Fail> {
+    let w = sample(rt.alloc())?;
+    let flags = member_names(rt.alloc(), &w, 2, 3)?;
     assert_eq!(rt; flags.as_slice(), [true, true, false].as_slice());
     Ok(())
 }
@@ -227,13 +268,22 @@ fn built(alloc: Global, steps: &[Step]) -> Result<Vec<JavaType>, Fail> {
     Ok(stack)
 }
 
-/// Classes of so many parameters, with these supertypes.
-fn declared(alloc: Global, classes: &[(u32, &[Step])]) -> Result<Vec<TypeInfo>, Fail> {
-    let mut types = Vec::new(alloc);
+fn add_declared(
+    alloc: Global,
+    types: &mut Vec<TypeInfo>,
+    classes: &[(u32, &[Step])],
+) -> Result<(), Fail> {
     for class in classes {
         let supers = built(alloc, class.1)?;
         types.push(generic(alloc, class.0, supers))?;
     }
+    Ok(())
+}
+
+/// Classes of so many parameters, with these supertypes.
+fn declared(alloc: Global, classes: &[(u32, &[Step])]) -> Result<Vec<TypeInfo>, Fail> {
+    let mut types = Vec::new(alloc);
+    add_declared(alloc, &mut types, classes)?;
     Ok(types)
 }
 
@@ -523,24 +573,72 @@ fn are_supertypes(
     Ok(true)
 }
 
+/// Whether the one sample, by its place, has a supertype of the class.
+fn has_supertype(
+    alloc: Global,
+    w: &World,
+    ts: &[JavaType],
+    case: (usize, u32),
+) -> Result<bool, Fail>
+    requires { IsSound w.now }
+{
+    let t = ts.get(case.0).ok_or("no such type")?;
+    Ok(supertype(alloc, w, t, case.1)?.is_some())
+}
+
+/// The place of the first question on the types, over the classes, with another answer.
+fn first_wrong_question(
+    alloc: Global,
+    classes: &[(u32, &[Step])],
+    types: &[Step],
+    questions: &[(usize, usize, bool, bool)],
+) -> Result<Option<usize>, Fail> {
+    let w = sound(alloc, classes)?;
+    let ts = built(alloc, types)?;
+    Ok(wrong_question(&w, ts.as_slice(), questions))
+}
+
+/// Whether the types, over the classes, have these supertypes.
+fn supertypes_hold(
+    alloc: Global,
+    classes: &[(u32, &[Step])],
+    types: &[Step],
+    cases: &[(usize, u32, usize)],
+) -> Result<bool, Fail> {
+    let w = sound(alloc, classes)?;
+    let ts = built(alloc, types)?;
+    are_supertypes(alloc, &w, ts.as_slice(), cases)
+}
+
+/// Whether one of the types, over the classes, has a supertype of the class.
+fn has_some_supertype(
+    alloc: Global,
+    classes: &[(u32, &[Step])],
+    types: &[Step],
+    case: (usize, u32),
+) -> Result<bool, Fail> {
+    let w = sound(alloc, classes)?;
+    let ts = built(alloc, types)?;
+    has_supertype(alloc, &w, ts.as_slice(), case)
+}
+
 #[test]
 fn types_are_ordered_as_javac_has_them(rt: HostRuntime) -> Result<(), Fail> {
-    let alloc = rt.alloc();
-    let w = sound(alloc, LIBRARY.as_slice())?;
-    let ts = built(alloc, SAMPLES)?;
-    assert_eq!(rt; ts.len(), 41);
+    let classes = LIBRARY.as_slice();
+    assert_eq!(rt; built(rt.alloc(), SAMPLES)?.len(), 41);
     assert_eq!(rt; QUESTIONS.len(), 58);
-    assert_eq!(rt; wrong_question(&w, ts.as_slice(), QUESTIONS), None);
+    assert_eq!(rt;
+        first_wrong_question(rt.alloc(), classes, SAMPLES, QUESTIONS)?,
+        None
+    );
     Ok(())
 }
 
 #[test]
 fn supertypes_have_their_arguments(rt: HostRuntime) -> Result<(), Fail> {
-    let alloc = rt.alloc();
-    let w = sound(alloc, LIBRARY.as_slice())?;
-    let ts = built(alloc, SAMPLES)?;
-    assert!(rt; are_supertypes(alloc, &w, ts.as_slice(), SUPERTYPES)?);
-    assert!(rt; supertype(alloc, &w, ts.get(1).ok_or("no such type")?, NAMES)?.is_none());
+    let classes = LIBRARY.as_slice();
+    assert!(rt; supertypes_hold(rt.alloc(), classes, SAMPLES, SUPERTYPES)?);
+    assert!(rt; !has_some_supertype(rt.alloc(), classes, SAMPLES, (1, NAMES))?);
     Ok(())
 }
 
@@ -674,12 +772,12 @@ const STEPS_UP: &[(usize, u32, usize)] = &[
 
 #[test]
 fn arguments_are_put_step_by_step(rt: HostRuntime) -> Result<(), Fail> {
-    let alloc = rt.alloc();
-    let w = sound(alloc, LADDER)?;
-    let ts = built(alloc, RUNGS)?;
-    assert_eq!(rt; ts.len(), 20);
-    assert_eq!(rt; wrong_question(&w, ts.as_slice(), CLIMBS), None);
-    assert!(rt; are_supertypes(alloc, &w, ts.as_slice(), STEPS_UP)?);
+    assert_eq!(rt; built(rt.alloc(), RUNGS)?.len(), 20);
+    assert_eq!(rt;
+        first_wrong_question(rt.alloc(), LADDER, RUNGS, CLIMBS)?,
+        None
+    );
+    assert!(rt; supertypes_hold(rt.alloc(), LADDER, RUNGS, STEPS_UP)?);
     Ok(())
 }
 
@@ -761,18 +859,28 @@ fn chain_type(alloc: Global, c: u32, links: Links) -> Result<JavaType, NoMemory>
     Ok(JavaType::Class(c, two(alloc, first, second)?))
 }
 
+/// The class of the chain that has this number, below the one before.
+fn chained(alloc: Global, before: u32, c: u32) -> Result<TypeInfo, NoMemory> {
+    let above = chain_type(alloc, before, links_above(c, OWN))?;
+    Ok(generic(alloc, 2, vec![in alloc; above]?))
+}
+
 /// Object, `S`, `Box<T>`, and a chain of forty classes `Link<X, Y>`, each of which extends the one before.
-fn chain(alloc: Global) -> Result<World, Fail>
-    ensures { IfOk result (λ w. IsSound w) }
-{
+fn chain_types(alloc: Global) -> Result<Vec<TypeInfo>, Fail> {
     let mut types = declared(
         alloc,
         &[(0, &[]), (0, &[Step::Bare(0)]), (1, &[]), (2, &[])],
     )?;
     for c in FIRST + 1..LAST + 1 {
-        let above = chain_type(alloc, c - 1, links_above(c, OWN))?;
-        types.push(generic(alloc, 2, vec![in alloc; above]?))?;
+        types.push(chained(alloc, c - 1, c)?)?;
     }
+    Ok(types)
+}
+
+fn chain(alloc: Global) -> Result<World, Fail>
+    ensures { IfOk result (λ w. IsSound w) }
+{
+    let types = chain_types(alloc)?;
     sound_worlds::sound(alloc, world(alloc, types, Vec::new(alloc)))
 }
 
@@ -798,17 +906,34 @@ fn are_chained(alloc: Global, w: &World, from: u32) -> Result<bool, Fail>
     Ok(true)
 }
 
+/// The first class of the chain with other supertypes.
+fn first_unchained(alloc: Global, w: &World) -> Result<Option<u32>, Fail>
+    requires { IsSound w.now }
+{
+    for from in FIRST..LAST + 1 {
+        if !are_chained(alloc, w, from)? {
+            return Ok(Some(from));
+        }
+    }
+    Ok(None)
+}
+
+/// Whether neither end of the chain, with its own variables, is below the other or fits it.
+fn are_ends_apart(alloc: Global, w: &World) -> Result<bool, NoMemory>
+    requires { IsSound w.now }
+{
+    let low = chain_type(alloc, LAST, OWN)?;
+    let high = chain_type(alloc, FIRST, OWN)?;
+    let apart = Some((false, false));
+    Ok(asked(w, &low, &high) == apart && asked(w, &high, &low) == apart)
+}
+
 #[test]
 fn a_long_way_up_keeps_the_arguments(rt: HostRuntime) -> Result<(), Fail> {
     let alloc = rt.alloc();
     let w = chain(alloc)?;
-    for from in FIRST..LAST + 1 {
-        assert!(rt; are_chained(alloc, &w, from)?);
-    }
-    let low = chain_type(alloc, LAST, OWN)?;
-    let high = chain_type(alloc, FIRST, OWN)?;
-    assert_eq!(rt; asked(&w, &low, &high), Some((false, false)));
-    assert_eq!(rt; asked(&w, &high, &low), Some((false, false)));
+    assert_eq!(rt; first_unchained(alloc, &w)?, None);
+    assert!(rt; are_ends_apart(alloc, &w)?);
     Ok(())
 }
 
@@ -838,12 +963,26 @@ fn erasure_drops_the_arguments(rt: HostRuntime) -> Result<(), Fail> {
     Ok(())
 }
 
+/// Two classes, each of which extends the other, behind those of the library.
+const TWO_ABOVE_THEMSELVES: &[(u32, &[Step])] = &[(0, &[Step::Bare(16)]), (0, &[Step::Bare(15)])];
+
+/// A class below two parameterizations of one interface, behind those of the library.
+const BELOW_TWO: &[(u32, &[Step])] = &[(
+    0,
+    &[Step::Bare(NAMES), Step::Bare(0), Step::One(COLLECTION)],
+)];
+
+/// The library's classes, and these behind them.
+fn library_and(alloc: Global, classes: &[(u32, &[Step])]) -> Result<Vec<TypeInfo>, Fail> {
+    let mut types = declared(alloc, LIBRARY.as_slice())?;
+    add_declared(alloc, &mut types, classes)?;
+    Ok(types)
+}
+
 #[test]
 fn no_order_where_a_class_is_above_itself(rt: HostRuntime) -> Result<(), Fail> {
     let alloc = rt.alloc();
-    let mut types = declared(alloc, LIBRARY.as_slice())?;
-    types.push(generic(alloc, 0, built(alloc, &[Step::Bare(16)])?))?;
-    types.push(generic(alloc, 0, built(alloc, &[Step::Bare(15)])?))?;
+    let types = library_and(alloc, TWO_ABOVE_THEMSELVES)?;
     assert!(rt; matches!(ordered(alloc, types)?, Ordered::AboveItself(_)));
     Ok(())
 }
@@ -851,18 +990,15 @@ fn no_order_where_a_class_is_above_itself(rt: HostRuntime) -> Result<(), Fail> {
 #[test]
 fn no_order_where_a_class_is_below_two_parameterizations(rt: HostRuntime) -> Result<(), Fail> {
     let alloc = rt.alloc();
-    let mut types = declared(alloc, LIBRARY.as_slice())?;
-    let two = built(
-        alloc,
-        &[Step::Bare(NAMES), Step::Bare(0), Step::One(COLLECTION)],
-    )?;
-    types.push(generic(alloc, 0, two))?;
+    let types = library_and(alloc, BELOW_TWO)?;
     assert!(rt; matches!(ordered(alloc, types)?, Ordered::BelowTwo(15)));
     Ok(())
 }
 
-/// Worlds whose order may be broken, each with its first class below two parameterizations of one class (JLS 8.1.5).
-const BROKEN: &[(&[(u32, &[Step])], Option<u32>)] = &[
+/// A world whose order may be broken, with its first class below two parameterizations of one class (JLS 8.1.5).
+type Broken<'a> = (&'a [(u32, &'a [Step])], Option<u32>);
+
+const BROKEN: &[Broken<'static>] = &[
     (DIAMOND, None),
     (TWO_STEPS_UP, Some(6)),
     (OWN_PARAMETERIZATION, Some(3)),
@@ -1375,11 +1511,18 @@ fn first_of(alloc: Global, classes: &[(u32, &[Step])]) -> Result<Option<u32>, Fa
     Ok(first_below_two(alloc, &w)?)
 }
 
+/// The first world for which another class is found, by its place.
+fn first_wrong(alloc: Global, worlds: &[Broken<'_>]) -> Result<Option<usize>, Fail> {
+    for (i, (classes, first)) in worlds.iter().enumerate() {
+        if first_of(alloc, *classes)? != *first {
+            return Ok(Some(i));
+        }
+    }
+    Ok(None)
+}
+
 #[test]
 fn the_first_class_below_two_is_found_in_a_broken_world(rt: HostRuntime) -> Result<(), Fail> {
-    let alloc = rt.alloc();
-    for (classes, first) in BROKEN {
-        assert_eq!(rt; first_of(alloc, classes)?, *first);
-    }
+    assert_eq!(rt; first_wrong(rt.alloc(), BROKEN)?, None);
     Ok(())
 }

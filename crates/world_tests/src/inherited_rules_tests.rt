@@ -2,18 +2,19 @@
 //!
 //! The names are `toString` 0, `equals` 1 and `f` 2. The programs of `member_table_tests` break each rule in the program's text.
 
+ghost use Rattle.class_world.specs.Sound.{IsSound};
+ghost use Rattle.class_world.specs.Typed.{HaveTypes};
+
 use crate::sound_worlds::sound_and_typed;
 use crate::worlds::Form::{Abstract, Open};
 use crate::worlds::Type::{Class, Int, Long, Of, Var};
 use crate::worlds::{
-    Head, Method, OBJECT, STRING, add_methods, add_type, world_with_object_methods,
+    Head, Method, OBJECT, STRING, add_methods, add_type, overrides_of, world_with_object_methods,
 };
 use class_world::World;
 use inherited_rules::first_inherited_breach;
 use java_tree::NoMemory;
 use member_methods::MethodLists;
-use method_ties::MethodTies;
-use overrides::Overrides;
 use rule_order::Breach;
 use std::alloc::Global;
 use std::test::Fail;
@@ -105,12 +106,18 @@ fn world(alloc: Global, x: &Sample<'_>) -> Result<World, NoMemory> {
     Ok(w)
 }
 
+fn breach_in(alloc: Global, w: &World) -> Result<Option<Breach>, NoMemory>
+    requires sound { IsSound w.now }
+    requires typed { HaveTypes w.now }
+{
+    let lists = MethodLists::of(alloc, w)?;
+    let overrides = overrides_of(alloc, w)?;
+    first_inherited_breach(alloc, w, &lists, &overrides)
+}
+
 fn breach(alloc: Global, x: &Sample<'_>) -> Result<Option<Breach>, Fail> {
     let w = sound_and_typed(alloc, world(alloc, x)?)?;
-    let lists = MethodLists::of(alloc, &w)?;
-    let ties = MethodTies::of(alloc, &w, &lists)?;
-    let overrides = Overrides::of(alloc, &w, &ties)?;
-    Ok(first_inherited_breach(alloc, &w, &lists, &overrides)?)
+    Ok(breach_in(alloc, &w)?)
 }
 
 #[test]

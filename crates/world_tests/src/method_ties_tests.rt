@@ -1,13 +1,9 @@
 //! Hierarchies by hand from JLS 8.4.8; javac's `Elements.overrides` and `hides` answer the same where nothing else is said.
 
-ghost use Rattle.class_world.specs.Sound.{IsSound};
-
 use crate::worlds::Form::{Constructor, Open, Private, Static};
 use crate::worlds::Type::{ArrayOf, Class, Int, Of, OfVar, Var};
-use crate::worlds::{Head, Method, OBJECT, STRING, sound};
-use class_world::World;
-use member_methods::MethodLists;
-use method_ties::{Meeting, MethodTies};
+use crate::worlds::{Head, Method, OBJECT, STRING, sound, ties_of};
+use method_ties::Meeting;
 use std::alloc::Global;
 use std::test::Fail;
 
@@ -299,13 +295,6 @@ const SAMPLES: [Sample<'static>; 17] = [
     },
 ];
 
-fn ties(alloc: Global, w: &World) -> Result<MethodTies, Fail>
-    requires { IsSound w.now }
-{
-    let lists = MethodLists::of(alloc, w)?;
-    Ok(MethodTies::of(alloc, w, &lists)?)
-}
-
 /// Whether these are the pairs, in whatever order.
 fn are_pairs(found: &[Meeting], wanted: &[(u32, u32)]) -> bool {
     for (lower, upper) in wanted {
@@ -339,7 +328,7 @@ fn places<'a>(replaced: &[&'a [u32]], m: u32) -> &'a [u32] {
 
 /// A method that takes the place of others than it should, and a type with other pairs.
 fn wrong(alloc: Global, x: &Sample<'_>) -> Result<(Option<u32>, Option<u32>), Fail> {
-    let ties = ties(alloc, &sound(alloc, x.types, x.methods)?)?;
+    let ties = ties_of(alloc, &sound(alloc, x.types, x.methods)?)?;
     let mut method = None;
     let mut class = None;
     for n in 0..10 {

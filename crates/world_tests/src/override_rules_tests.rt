@@ -8,12 +8,10 @@ use crate::sound_worlds::sound_and_typed;
 use crate::worlds::Form::{Final, Open, Package};
 use crate::worlds::Type::{Class, Int, Long, Of, Var};
 use crate::worlds::{
-    Head, Method, OBJECT, STRING, Type, add_method, add_type, world_with_object_methods,
+    Head, Method, OBJECT, STRING, Type, add_method, add_type, ties_of, world_with_object_methods,
 };
 use class_world::World;
 use java_tree::NoMemory;
-use member_methods::MethodLists;
-use method_ties::MethodTies;
 use override_rules::first_override_breach;
 use rule_order::Breach;
 use std::alloc::Global;
@@ -96,8 +94,7 @@ fn world(alloc: Global, x: &Sample<'_>) -> Result<World, NoMemory> {
 
 fn breach(alloc: Global, w: World) -> Result<Option<Breach>, Fail> {
     let w = sound_and_typed(alloc, w)?;
-    let lists = MethodLists::of(alloc, &w)?;
-    let ties = MethodTies::of(alloc, &w, &lists)?;
+    let ties = ties_of(alloc, &w)?;
     Ok(first_override_breach(alloc, &w, &ties)?)
 }
 

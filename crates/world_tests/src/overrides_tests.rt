@@ -6,12 +6,10 @@ use crate::sound_worlds::sound;
 use crate::worlds::Form::{Constructor, Open, Private, Static};
 use crate::worlds::Type::{Class, Int, Of, OfVar, Var};
 use crate::worlds::{
-    Head, Method, OBJECT, STRING, add_method, add_type, world_with_object_methods,
+    Head, Method, OBJECT, STRING, add_method, add_type, overrides_of, world_with_object_methods,
 };
 use class_world::World;
 use java_tree::NoMemory;
-use member_methods::MethodLists;
-use method_ties::MethodTies;
 use overrides::Overrides;
 use std::alloc::Global;
 use std::test::Fail;
@@ -260,9 +258,7 @@ const INHERITED: [Sample<'static>; 8] = [
 
 fn answers(alloc: Global, w: World) -> Result<Overrides, Fail> {
     let w = sound(alloc, w)?;
-    let lists = MethodLists::of(alloc, &w)?;
-    let ties = MethodTies::of(alloc, &w, &lists)?;
-    Ok(Overrides::of(alloc, &w, &ties)?)
+    Ok(overrides_of(alloc, &w)?)
 }
 
 /// Whether the methods of the slice are the listed family of the method, or it is in none and alone.
@@ -326,17 +322,41 @@ fn chain(alloc: Global, length: u32) -> Result<World, NoMemory> {
     Ok(w)
 }
 
+/// The first pair of methods of which another answer is given than the list says.
+fn wrong_pair(overrides: &Overrides, pairs: &[(u32, u32, bool)]) -> Option<(u32, u32)> {
+    for (m, k, so) in pairs {
+        if overrides.overrides(*m, *k) != *so {
+            return Some((*m, *k));
+        }
+    }
+    None
+}
+
+/// The first method of another family than the list says.
+fn wrong_family(overrides: &Overrides, families: &[(u32, &[u32])]) -> Option<u32> {
+    for (m, methods) in families {
+        if overrides.family(*m) != *methods {
+            return Some(*m);
+        }
+    }
+    None
+}
+
+/// Pairs of methods of the chain, and whether the first overrides the second.
+const IN_THE_CHAIN: &[(u32, u32, bool)] = &[
+    (2, 99, true),
+    (50, 51, true),
+    (51, 50, false),
+    (50, 50, false),
+    (50, 100, false),
+];
+
 #[test]
 fn a_deep_chain(rt: HostRuntime) -> Result<(), Fail> {
     let overrides = answers(rt.alloc(), chain(rt.alloc(), 100)?)?;
-    assert!(rt; overrides.overrides(2, 99));
-    assert!(rt; overrides.overrides(50, 51));
-    assert!(rt; !overrides.overrides(51, 50));
-    assert!(rt; !overrides.overrides(50, 50));
-    assert!(rt; !overrides.overrides(50, 100));
+    assert_eq!(rt; wrong_pair(&overrides, IN_THE_CHAIN), None);
+    assert_eq!(rt; wrong_family(&overrides, &[(1, &[1]), (100, &[])]), None);
     assert_eq!(rt; overrides.family(50).len(), 98);
-    assert_eq!(rt; overrides.family(1), [1].as_slice());
-    assert_eq!(rt; overrides.family(100), [].as_slice());
     Ok(())
 }
 
@@ -355,14 +375,24 @@ fn below_a_circle(alloc: Global, length: u32) -> Result<World, NoMemory> {
     Ok(w)
 }
 
+/// Pairs of methods of the circle and the chain, and whether the first overrides the second.
+const BELOW_THE_CIRCLE: &[(u32, u32, bool)] = &[
+    (0, 2, true),
+    (2, 0, true),
+    (0, 0, false),
+    (2, 2, false),
+    (38, 0, true),
+    (38, 2, true),
+    (38, 3, true),
+    (38, 37, true),
+    (2, 3, false),
+    (37, 38, false),
+];
+
 #[test]
 fn a_chain_below_methods_that_override_each_other(rt: HostRuntime) -> Result<(), Fail> {
     let overrides = answers(rt.alloc(), below_a_circle(rt.alloc(), 40)?)?;
-    assert!(rt; overrides.overrides(0, 2) && overrides.overrides(2, 0));
-    assert!(rt; !overrides.overrides(0, 0) && !overrides.overrides(2, 2));
-    assert!(rt; overrides.overrides(38, 0) && overrides.overrides(38, 2));
-    assert!(rt; overrides.overrides(38, 3) && overrides.overrides(38, 37));
-    assert!(rt; !overrides.overrides(2, 3) && !overrides.overrides(37, 38));
+    assert_eq!(rt; wrong_pair(&overrides, BELOW_THE_CIRCLE), None);
     assert_eq!(rt; overrides.family(20).len(), 38);
     Ok(())
 }

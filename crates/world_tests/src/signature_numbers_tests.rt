@@ -273,11 +273,21 @@ fn numbers_are_found_again(rt: HostRuntime) -> Result<(), Fail> {
     Ok(())
 }
 
+/// Rows, and a signature that is not among them.
+const OTHERS: [(&[Row], u32, &[Flat]); 4] = [
+    (OVERLOADS, 9, &[]),
+    (OVERLOADS, 8, &[Flat::Long]),
+    (OVERLOADS, 7, &[Flat::Int, Flat::Bare(1)]),
+    (WHOLE_TYPES, 0, &[Flat::Of(2, 1)]),
+];
+
 #[test]
 fn others_are_not_found(rt: HostRuntime) -> Result<(), Fail> {
-    assert!(rt; !is_found(rt.alloc(), OVERLOADS, 9, &[])?);
-    assert!(rt; !is_found(rt.alloc(), OVERLOADS, 8, &[Flat::Long])?);
-    assert!(rt; !is_found(rt.alloc(), OVERLOADS, 7, &[Flat::Int, Flat::Bare(1)])?);
-    assert!(rt; !is_found(rt.alloc(), WHOLE_TYPES, 0, &[Flat::Of(2, 1)])?);
+    for (rows, name, params) in OTHERS.as_slice() {
+        assert!(rt;
+            !is_found(rt.alloc(), *rows, *name, *params)?,
+            "name {name}"
+        );
+    }
     Ok(())
 }

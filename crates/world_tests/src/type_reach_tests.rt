@@ -4,7 +4,6 @@ use std::test::Fail;
 use type_reach::{Graph, first_on_cycle, on_cycles, reaching};
 
 /// A graph, marks, and what is asked of them.
-#[derive(Clone, Copy)]
 struct Sample<'a> {
     targets: &'a [&'a [u32]],
     marks: &'a [bool],
@@ -12,6 +11,31 @@ struct Sample<'a> {
     on_cycles: &'a [bool],
     first: Option<u32>,
 }
+
+/// A chain, a node between two cycles (0 between that of 1 and 4 and that of 2 and 3), and a diamond.
+const SAMPLES: [Sample<'static>; 3] = [
+    Sample {
+        targets: &[&[1], &[2], &[9], &[2]],
+        marks: &[false, true],
+        reaching: &[true, true, false, false],
+        on_cycles: &[false, false, false, false],
+        first: None,
+    },
+    Sample {
+        targets: &[&[2], &[0, 4], &[3], &[2], &[1, 5, 6], &[6], &[]],
+        marks: &[false, false, false, true, false, false, false],
+        reaching: &[true, true, true, true, true, false, false],
+        on_cycles: &[false, true, true, true, true, false, false],
+        first: Some(1),
+    },
+    Sample {
+        targets: &[&[1, 2], &[3], &[3], &[], &[4, 0]],
+        marks: &[false, false, false, true, false],
+        reaching: &[true, true, true, true, true],
+        on_cycles: &[false, false, false, false, true],
+        first: Some(4),
+    },
+];
 
 fn graph_of(alloc: Global, targets: &[&[u32]]) -> Result<Graph, NoMemory> {
     let mut graph = Items::new(alloc);
@@ -21,7 +45,7 @@ fn graph_of(alloc: Global, targets: &[&[u32]]) -> Result<Graph, NoMemory> {
     Ok(graph)
 }
 
-fn is_right(alloc: Global, x: Sample<'_>) -> Result<bool, NoMemory> {
+fn is_right(alloc: Global, x: &Sample<'_>) -> Result<bool, NoMemory> {
     let graph = graph_of(alloc, x.targets)?;
     let answers = reaching(alloc, &graph, x.marks)?;
     if answers.as_slice() != x.reaching {
@@ -44,31 +68,9 @@ fn are_round(alloc: Global, count: u32) -> Result<bool, NoMemory> {
 
 #[test]
 fn ways(rt: HostRuntime) -> Result<(), Fail> {
-    let chain = Sample {
-        targets: &[&[1], &[2], &[9], &[2]],
-        marks: &[false, true],
-        reaching: &[true, true, false, false],
-        on_cycles: &[false, false, false, false],
-        first: None,
-    };
-    // Node 0 is between the cycles of 1 and 4 and of 2 and 3.
-    let between = Sample {
-        targets: &[&[2], &[0, 4], &[3], &[2], &[1, 5, 6], &[6], &[]],
-        marks: &[false, false, false, true, false, false, false],
-        reaching: &[true, true, true, true, true, false, false],
-        on_cycles: &[false, true, true, true, true, false, false],
-        first: Some(1),
-    };
-    let diamond = Sample {
-        targets: &[&[1, 2], &[3], &[3], &[], &[4, 0]],
-        marks: &[false, false, false, true, false],
-        reaching: &[true, true, true, true, true],
-        on_cycles: &[false, false, false, false, true],
-        first: Some(4),
-    };
-    assert!(rt; is_right(rt.alloc(), chain)?);
-    assert!(rt; is_right(rt.alloc(), between)?);
-    assert!(rt; is_right(rt.alloc(), diamond)?);
+    for (i, x) in SAMPLES.iter().enumerate() {
+        assert!(rt; is_right(rt.alloc(), x)?, "sample {i}");
+    }
     assert!(rt; are_round(rt.alloc(), 1000)?);
     Ok(())
 }

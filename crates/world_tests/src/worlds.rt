@@ -2,11 +2,16 @@
 
 ghost use Rattle.std.specs.Prelude.{IfOk};
 ghost use Rattle.class_world.specs.Sound.{IsSound};
+ghost use Rattle.method_ties.specs.Ties.{HoldsTies};
+ghost use Rattle.overrides.specs.Overrides.{HoldsOverrides};
 
 use crate::sound_worlds;
 use class_world::{JavaType, MethodInfo, TypeInfo, World};
 use java_tree::tree::{Mod, Name, Primitive};
 use java_tree::{Boxed, Items, NoMemory};
+use member_methods::MethodLists;
+use method_ties::MethodTies;
+use overrides::Overrides;
 use std::alloc::Global;
 use std::test::Fail;
 
@@ -239,4 +244,22 @@ pub(crate) fn sound(
     ensures { IfOk result (λ v. IsSound v) }
 {
     sound_worlds::sound(alloc, world(alloc, types, methods)?)
+}
+
+/// The ties of a world's methods, over its own lists.
+pub(crate) fn ties_of(alloc: Global, w: &World) -> Result<MethodTies, NoMemory>
+    requires { IsSound w.now }
+    ensures { IfOk result (λ t. HoldsTies w.now t) }
+{
+    let lists = MethodLists::of(alloc, w)?;
+    MethodTies::of(alloc, w, &lists)
+}
+
+/// What the methods of a world override.
+pub(crate) fn overrides_of(alloc: Global, w: &World) -> Result<Overrides, NoMemory>
+    requires { IsSound w.now }
+    ensures { IfOk result (λ t. HoldsOverrides w.now t) }
+{
+    let ties = ties_of(alloc, w)?;
+    Overrides::of(alloc, w, &ties)
 }
