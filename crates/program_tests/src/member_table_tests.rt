@@ -900,7 +900,7 @@ const GROUPS: [Case<'static>; 10] = [
     ),
     // Three types whose overloads are the same in part.
     (
-        "interface I { void m(int x); } interface J { void m(long x); } interface K { void m(char x); } interface L { void m(short x); } interface M { void m(byte x); } interface P extends I, J, K { } interface Q extends J, K, L { } interface R extends K, L, M { }",
+        "interface I { void m(int x); } interface J { void m(long x); } interface K { void m(char x); } interface L { void m(boolean x); } interface M { void m(String x); } interface P extends I, J, K { } interface Q extends J, K, L { } interface R extends K, L, M { }",
         &[
             Grouped("I.m", "I.m J.m K.m"),
             Grouped("J.m", "I.m J.m K.m L.m"),
