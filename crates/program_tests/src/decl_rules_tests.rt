@@ -249,24 +249,49 @@ fn block(alloc: Global, place: Place, parts: &[Part]) -> Result<Stmt, NoMemory> 
     Ok(stmt(StmtForm::Block(body)))
 }
 
-fn method(
-    alloc: Global,
-    mods: Items<Mod>,
-    constructor: bool,
-    name: Name,
-    params: Items<Param>,
-    body: Option<Stmt>,
-) -> Member {
-    Member::Method {
+fn taken(alloc: Global, parts: &[Part], dims: u32) -> Result<Items<Param>, NoMemory> {
+    let ty = written(alloc, parts)?;
+    Ok(Items::one(alloc, param(ty, dims))?)
+}
+
+fn params_of(alloc: Global, given: Given) -> Result<Items<Param>, NoMemory> {
+    match given {
+        Given::Taking(_, parts, dims) => taken(alloc, parts, dims),
+        _ => Ok(Items::new(alloc)),
+    }
+}
+
+fn body_of(alloc: Global, given: Given) -> Result<Option<Stmt>, NoMemory> {
+    match given {
+        Given::Abstract(_) => Ok(None),
+        Given::Inside(place, parts) => Ok(Some(block(alloc, place, parts)?)),
+        _ => Ok(Some(empty(alloc))),
+    }
+}
+
+fn name_of(given: Given) -> Name {
+    match given {
+        Given::Abstract(name) => name,
+        Given::Method(name) => name,
+        Given::Constructor(name) => name,
+        Given::Taking(name, _, _) => name,
+        _ => M,
+    }
+}
+
+fn method(alloc: Global, mods: Items<Mod>, given: Given) -> Result<Member, NoMemory> {
+    let params = params_of(alloc, given)?;
+    let body = body_of(alloc, given)?;
+    Ok(Member::Method {
         node: node(6),
         mods,
         result: None,
-        constructor,
-        name,
+        constructor: matches!(given, Given::Constructor(_)),
+        name: name_of(given),
         params,
         throws: Items::new(alloc),
         body,
-    }
+    })
 }
 
 fn field(mods: Items<Mod>, ty: TypeExpr, vars: Items<Var>) -> Member {
@@ -276,11 +301,6 @@ fn field(mods: Items<Mod>, ty: TypeExpr, vars: Items<Var>) -> Member {
         ty,
         vars,
     }
-}
-
-fn taken(alloc: Global, parts: &[Part], dims: u32) -> Result<Items<Param>, NoMemory> {
-    let ty = written(alloc, parts)?;
-    Ok(Items::one(alloc, param(ty, dims))?)
 }
 
 fn member(alloc: Global, mods: Items<Mod>, given: Given) -> Result<Member, NoMemory> {
@@ -293,30 +313,18 @@ fn member(alloc: Global, mods: Items<Mod>, given: Given) -> Result<Member, NoMem
             let ty = written(alloc, parts)?;
             Ok(field(mods, ty, Items::new(alloc)))
         }
-        Given::Abstract(name) => Ok(method(alloc, mods, false, name, Items::new(alloc), None)),
-        Given::Method(name) => {
-            let body = Some(empty(alloc));
-            Ok(method(alloc, mods, false, name, Items::new(alloc), body))
-        }
-        Given::Constructor(name) => {
-            let body = Some(empty(alloc));
-            Ok(method(alloc, mods, true, name, Items::new(alloc), body))
-        }
-        Given::Taking(name, parts, dims) => {
-            let params = taken(alloc, parts, dims)?;
-            let body = Some(empty(alloc));
-            Ok(method(alloc, mods, false, name, params, body))
-        }
-        Given::Inside(place, parts) => {
-            let body = Some(block(alloc, place, parts)?);
-            Ok(method(alloc, mods, false, M, Items::new(alloc), body))
-        }
+        _ => method(alloc, mods, given),
     }
 }
 
+fn members(alloc: Global, case: &Case) -> Result<Items<Member>, NoMemory> {
+    let mods = Items::from_slice(alloc, case.mods)?;
+    let member = member(alloc, mods, case.member)?;
+    Ok(Items::one(alloc, member)?)
+}
+
 fn class(alloc: Global, case: &Case) -> Result<TypeDecl, NoMemory> {
-    let member = member(alloc, Items::from_slice(alloc, case.mods)?, case.member)?;
-    let members = Items::one(alloc, member)?;
+    let members = members(alloc, case)?;
     let mods = Items::from_slice(alloc, case.of_type)?;
     let params = Items::from_slice(alloc, case.params)?;
     Ok(TypeDecl {

@@ -460,7 +460,20 @@ const NOT_USABLE: [(&[&str], &[&str]); 16] = [
     ),
 ];
 
-/// The trees of texts, the nodes of each numbered from 100 more than those before. `None` also for a long text.
+/// The tree of a text, its nodes numbered from the first number on. `None` also for a long text.
+fn unit_of(alloc: Global, text: &str, first: u32, names: &mut Names) -> Option<SourceUnit> {
+    let text = text.as_bytes();
+    if text.len() > 1000 || names.len() > 10_000 || first > 100_000 {
+        return None;
+    }
+    let tokens = lex(alloc, text).ok()?;
+    if tokens.len() > 1000 {
+        return None;
+    }
+    parse_unit(alloc, text, tokens.as_slice(), first, names).ok()
+}
+
+/// The trees of texts, the nodes of each numbered from 100 more than those before.
 fn units_of(
     alloc: Global,
     texts: &[&str],
@@ -469,29 +482,42 @@ fn units_of(
 ) -> Option<Vec<SourceUnit>> {
     let mut units = Vec::new(alloc);
     for text in texts {
-        let text = text.as_bytes();
-        if text.len() > 1000 || names.len() > 10_000 || first > 100_000 {
-            return None;
-        }
-        let tokens = lex(alloc, text).ok()?;
-        if tokens.len() > 1000 {
-            return None;
-        }
-        let unit = parse_unit(alloc, text, tokens.as_slice(), first, names).ok()?;
-        units.push(unit).ok()?;
-        first += 100;
+        units.push(unit_of(alloc, text, first, names)?).ok()?;
+        first = first.saturating_add(100);
     }
     Some(units)
 }
 
+/// The trees of a program, and its names.
+#[derive(Drop)]
+struct Files {
+    names: Names,
+    user: Vec<SourceUnit>,
+    lib: Vec<SourceUnit>,
+}
+
+fn no_files(alloc: Global) -> Option<Files> {
+    let names = Names::new(alloc).ok()?;
+    Some(Files {
+        names,
+        user: Vec::new(alloc),
+        lib: Vec::new(alloc),
+    })
+}
+
+fn files_of(alloc: Global, user: &[&str], lib: &[&str]) -> Option<Files> {
+    let mut files = no_files(alloc)?;
+    files.user = units_of(alloc, user, 0, &mut files.names)?;
+    files.lib = units_of(alloc, lib, 1000, &mut files.names)?;
+    Some(files)
+}
+
 fn answer(alloc: Global, user: &[&str], lib: &[&str]) -> Option<Result<World, Fault>> {
-    let mut names = Names::new(alloc).ok()?;
-    let user = units_of(alloc, user, 0, &mut names)?;
-    let lib = units_of(alloc, lib, 1000, &mut names)?;
-    if names.len() > 10_000 {
+    let mut files = files_of(alloc, user, lib)?;
+    if files.names.len() > 10_000 {
         return None;
     }
-    Some(build(alloc, user.as_slice(), lib.as_slice(), &mut names))
+    Some(build(alloc, &files.user, &files.lib, &mut files.names))
 }
 
 fn is_refused(alloc: Global, user: &[&str], lib: &[&str], broken: Broken) -> bool {
@@ -501,13 +527,16 @@ fn is_refused(alloc: Global, user: &[&str], lib: &[&str], broken: Broken) -> boo
     }
 }
 
+/// How many supertypes, methods and fields the type of a number has.
+fn counts_of(world: &World, number: usize) -> Option<[usize; 3]> {
+    let info = world.types.get(number)?;
+    Some([info.supers.len(), info.methods.len(), info.fields.len()])
+}
+
 /// Whether a program is right, and its type of this number has so many supertypes, methods and fields.
 fn has_type(alloc: Global, user: &[&str], lib: &[&str], number: usize, counts: [usize; 3]) -> bool {
     match answer(alloc, user, lib) {
-        Some(Ok(world)) => match world.types.get(number) {
-            Some(info) => [info.supers.len(), info.methods.len(), info.fields.len()] == counts,
-            None => false,
-        },
+        Some(Ok(world)) => counts_of(&world, number) == Some(counts),
         _ => false,
     }
 }

@@ -900,7 +900,7 @@ const GROUPS: [Case<'static>; 10] = [
     ),
     // Three types whose overloads are the same in part.
     (
-        "interface I { void m(int x); } interface J { void m(long x); } interface K { void m(char x); } interface L { void m(short x); } interface M { void m(byte x); } interface P extends I, J, K { } interface Q extends J, K, L { } interface R extends K, L, M { }",
+        "interface I { void m(int x); } interface J { void m(long x); } interface K { void m(char x); } interface L { void m(boolean x); } interface M { void m(String x); } interface P extends I, J, K { } interface Q extends J, K, L { } interface R extends K, L, M { }",
         &[
             Grouped("I.m", "I.m J.m K.m"),
             Grouped("J.m", "I.m J.m K.m L.m"),
@@ -1195,7 +1195,20 @@ struct Sample {
     members: Result<Members, Fault>,
 }
 
-/// The trees of texts, the nodes of each numbered from 10,000 more than those before. `None` also for a long text.
+/// The tree of a text, its nodes numbered from the first number on. `None` also for a long text.
+fn unit_of(alloc: Global, text: &str, first: u32, names: &mut Names) -> Option<SourceUnit> {
+    let text = text.as_bytes();
+    if text.len() > 10_000 || names.len() > 100_000 || first > 1_000_000 {
+        return None;
+    }
+    let tokens = lex(alloc, text).ok()?;
+    if tokens.len() > 10_000 {
+        return None;
+    }
+    parse_unit(alloc, text, tokens.as_slice(), first, names).ok()
+}
+
+/// The trees of texts, the nodes of each numbered from 10,000 more than those before.
 fn units_of(
     alloc: Global,
     texts: &[&str],
@@ -1204,39 +1217,53 @@ fn units_of(
 ) -> Option<Vec<SourceUnit>> {
     let mut units = Vec::new(alloc);
     for text in texts {
-        let text = text.as_bytes();
-        if text.len() > 10_000 || names.len() > 100_000 || first > 1_000_000 {
-            return None;
-        }
-        let tokens = lex(alloc, text).ok()?;
-        if tokens.len() > 10_000 {
-            return None;
-        }
-        let unit = parse_unit(alloc, text, tokens.as_slice(), first, names).ok()?;
-        units.push(unit).ok()?;
-        first += 10_000;
+        units.push(unit_of(alloc, text, first, names)?).ok()?;
+        first = first.saturating_add(10_000);
     }
     Some(units)
 }
 
-fn tabled(alloc: Global, user: &[&str], lib: &[&str]) -> Option<Sample> {
-    let mut names = Names::new(alloc).ok()?;
-    let user = units_of(alloc, user, 0, &mut names)?;
-    let lib = units_of(alloc, lib, 100_000, &mut names)?;
-    if names.len() > 100_000 {
+/// The trees of a program, and its names.
+#[derive(Drop)]
+struct Files {
+    names: Names,
+    user: Vec<SourceUnit>,
+    lib: Vec<SourceUnit>,
+}
+
+fn no_files(alloc: Global) -> Option<Files> {
+    let names = Names::new(alloc).ok()?;
+    Some(Files {
+        names,
+        user: Vec::new(alloc),
+        lib: Vec::new(alloc),
+    })
+}
+
+fn files_of(alloc: Global, user: &[&str], lib: &[&str]) -> Option<Files> {
+    let mut files = no_files(alloc)?;
+    files.user = units_of(alloc, user, 0, &mut files.names)?;
+    files.lib = units_of(alloc, lib, 100_000, &mut files.names)?;
+    Some(files)
+}
+
+/// The world of a program, where none of the rules on its declarations is broken.
+fn world_of(alloc: Global, files: &mut Files) -> Option<World> {
+    if files.names.len() > 100_000 {
         return None;
     }
-    match build(alloc, user.as_slice(), lib.as_slice(), &mut names) {
-        Ok(world) => {
-            let members = tabulate(alloc, &world);
-            Some(Sample {
-                names,
-                world,
-                members,
-            })
-        }
-        Err(_) => None,
-    }
+    build(alloc, &files.user, &files.lib, &mut files.names).ok()
+}
+
+fn tabled(alloc: Global, user: &[&str], lib: &[&str]) -> Option<Sample> {
+    let mut files = files_of(alloc, user, lib)?;
+    let world = world_of(alloc, &mut files)?;
+    let members = tabulate(alloc, &world);
+    Some(Sample {
+        names: files.names,
+        world,
+        members,
+    })
 }
 
 /// The number of the type with a simple name.

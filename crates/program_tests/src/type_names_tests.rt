@@ -5,6 +5,26 @@ use std::alloc::Global;
 use std::test::Fail;
 use type_names::{JavaNames, TypeNames, first_name_breach};
 
+/// An import: the number of its node, on demand or not, and its path.
+type WrittenImport<'a> = (u32, bool, &'a [&'a str]);
+
+/// A class: the number of its node, public or not, and its name.
+type WrittenType<'a> = (u32, bool, &'a str);
+
+/// A file: the number of its node, its package, its imports and its classes.
+#[derive(Clone, Copy)]
+struct Written<'a> {
+    id: u32,
+    package: &'a [&'a str],
+    imports: &'a [WrittenImport<'a>],
+    types: &'a [WrittenType<'a>],
+}
+
+/// User files, library files, and the first rule that they break, by node and number; 0 and 0 for none.
+type Case<'a> = (&'a [Written<'a>], &'a [Written<'a>], u32, u8);
+
+// ---- trees
+
 fn node(id: u32) -> Node {
     Node {
         id,
@@ -34,47 +54,38 @@ fn path(alloc: Global, names: &mut Names, words: &[&str]) -> Result<Items<Name>,
     Ok(path)
 }
 
-/// A file: the number of its node, its package, its imports (number of the node, on demand or not, path) and its classes (number of the node, public or not, name).
-#[derive(Clone, Copy)]
-struct Written<'a> {
-    id: u32,
-    package: &'a [&'a str],
-    imports: &'a [(u32, bool, &'a [&'a str])],
-    types: &'a [(u32, bool, &'a str)],
-}
-
-// A file without imports.
-fn of<'a>(id: u32, package: &'a [&'a str], types: &'a [(u32, bool, &'a str)]) -> Written<'a> {
-    Written {
-        id,
-        package,
-        imports: &[],
-        types,
-    }
+fn import(
+    alloc: Global,
+    names: &mut Names,
+    written: &WrittenImport<'_>,
+) -> Result<Import, NoMemory> {
+    let (id, all, words) = *written;
+    let path = path(alloc, names, words)?;
+    Ok(Import {
+        node: node(id),
+        path,
+        all,
+    })
 }
 
 fn imports(
     alloc: Global,
     names: &mut Names,
-    written: &[(u32, bool, &[&str])],
+    written: &[WrittenImport<'_>],
 ) -> Result<Items<Import>, NoMemory> {
     let mut imports = Items::new(alloc);
-    for (id, all, words) in written {
-        imports.push(Import {
-            node: node(*id),
-            path: path(alloc, names, words)?,
-            all: *all,
-        })?;
+    for one in written {
+        imports.push(import(alloc, names, one)?)?;
     }
     Ok(imports)
 }
 
 fn class(alloc: Global, id: u32, public: bool, name: Name) -> Result<TypeDecl, NoMemory> {
-    let mut mods = Items::new(alloc);
-    mods.push(Mod::Abstract)?;
-    if public {
-        mods.push(Mod::Public)?;
-    }
+    let mods = if public {
+        Items::from_slice(alloc, &[Mod::Abstract, Mod::Public])?
+    } else {
+        Items::one(alloc, Mod::Abstract)?
+    };
     Ok(TypeDecl {
         node: node(id),
         mods,
@@ -91,11 +102,12 @@ fn class(alloc: Global, id: u32, public: bool, name: Name) -> Result<TypeDecl, N
 fn classes(
     alloc: Global,
     names: &mut Names,
-    written: &[(u32, bool, &str)],
+    written: &[WrittenType<'_>],
 ) -> Result<Items<TypeDecl>, NoMemory> {
     let mut types = Items::new(alloc);
     for (id, public, text) in written {
-        types.push(class(alloc, *id, *public, name(names, text)?)?)?;
+        let name = name(names, text)?;
+        types.push(class(alloc, *id, *public, name)?)?;
     }
     Ok(types)
 }
@@ -121,336 +133,556 @@ fn units(
     Ok(units)
 }
 
-// Whether this is the first broken rule on names, by node and number; 0 and 0 for none.
-fn breaks(
+/// The trees of a program, and its names.
+#[derive(Drop)]
+struct Program {
+    names: Names,
+    java: JavaNames,
+    user: Vec<SourceUnit>,
+    lib: Vec<SourceUnit>,
+}
+
+impl Program {
+    fn empty(alloc: Global) -> Result<Program, NoMemory> {
+        let mut names = Names::new(alloc)?;
+        let java = java_names(&mut names)?;
+        Ok(Program {
+            names,
+            java,
+            user: Vec::new(alloc),
+            lib: Vec::new(alloc),
+        })
+    }
+
+    fn of(alloc: Global, user: &[Written<'_>], lib: &[Written<'_>]) -> Result<Program, NoMemory> {
+        let mut program = Program::empty(alloc)?;
+        program.user = units(alloc, &mut program.names, user)?;
+        program.lib = units(alloc, &mut program.names, lib)?;
+        Ok(program)
+    }
+
+    fn table(&self, alloc: Global) -> Result<TypeNames, NoMemory> {
+        TypeNames::of(alloc, self.java, &self.user, &self.lib)
+    }
+}
+
+// ---- rules on names
+
+fn breach(node: u32, rule: u8) -> Option<Breach> {
+    if rule == 0 {
+        return None;
+    }
+    Some(Breach { node, rule })
+}
+
+/// Whether this is the first broken rule on names.
+fn breaks(alloc: Global, (user, lib, node, rule): Case<'_>) -> bool {
+    let Ok(program) = Program::of(alloc, user, lib) else {
+        return false;
+    };
+    let first = first_name_breach(alloc, program.java, &program.user, &program.lib);
+    first == Ok(breach(node, rule))
+}
+
+/// The place of the first case that breaks another rule, or none.
+fn first_wrong(alloc: Global, cases: &[Case<'_>]) -> Option<usize> {
+    for (at, case) in cases.iter().enumerate() {
+        if !breaks(alloc, *case) {
+            return Some(at);
+        }
+    }
+    None
+}
+
+/// A file without anything.
+const EMPTY: Written<'static> = Written {
+    id: 1,
+    package: &[],
+    imports: &[],
+    types: &[],
+};
+
+const SHOP_A: Written<'static> = Written {
+    package: &["shop"],
+    types: &[(2, false, "A")],
+    ..EMPTY
+};
+
+const SHOP_B: Written<'static> = Written {
+    id: 3,
+    package: &["shop"],
+    types: &[(4, false, "B")],
+    ..EMPTY
+};
+
+const SHOP_TILL: Written<'static> = Written {
+    id: 5,
+    package: &["shop", "till"],
+    ..EMPTY
+};
+
+const SHOP_EMPTY: Written<'static> = Written {
+    id: 6,
+    package: &["shop"],
+    ..EMPTY
+};
+
+static ONE_PACKAGE: [Case<'static>; 2] = [
+    (&[SHOP_A, SHOP_B], &[], 0, 0),
+    (&[SHOP_A, SHOP_B, SHOP_TILL, SHOP_EMPTY], &[], 5, 14),
+];
+
+#[test]
+fn user_files_are_in_one_package(rt: HostRuntime) -> Result<(), Fail> {
+    assert_eq!(rt; first_wrong(rt.alloc(), &ONE_PACKAGE), None);
+    Ok(())
+}
+
+const JAVA_UTIL: Written<'static> = Written {
+    package: &["java", "util"],
+    ..EMPTY
+};
+
+const JAVA_UTIL_OWN: Written<'static> = Written {
+    package: &["java", "util", "own"],
+    ..EMPTY
+};
+
+const JAVA_IO: Written<'static> = Written {
+    package: &["java", "io"],
+    ..EMPTY
+};
+
+const OWN: Written<'static> = Written {
+    package: &["own"],
+    ..EMPTY
+};
+
+const LIB_JAVA_UTIL: Written<'static> = Written {
+    id: 9,
+    package: &["java", "util"],
+    ..EMPTY
+};
+
+const LIB_UNNAMED: Written<'static> = Written { id: 9, ..EMPTY };
+
+static OWN_PACKAGES: [Case<'static>; 6] = [
+    (&[JAVA_UTIL_OWN], &[LIB_JAVA_UTIL], 0, 0),
+    (&[JAVA_UTIL], &[LIB_JAVA_UTIL], 1, 15),
+    (&[JAVA_IO], &[LIB_JAVA_UTIL], 1, 15),
+    // Both files are in the unnamed package: the user file's rule comes first.
+    (&[EMPTY], &[LIB_UNNAMED], 1, 15),
+    (&[OWN], &[LIB_UNNAMED], 9, 20),
+    (&[EMPTY], &[LIB_JAVA_UTIL], 0, 0),
+];
+
+#[test]
+fn user_packages_are_their_own(rt: HostRuntime) -> Result<(), Fail> {
+    assert_eq!(rt; first_wrong(rt.alloc(), &OWN_PACKAGES), None);
+    Ok(())
+}
+
+/// A user file of `shop`.
+const SHOP: Written<'static> = Written {
+    package: &["shop"],
+    ..EMPTY
+};
+
+const UTIL_MAP: Written<'static> = Written {
+    id: 9,
+    package: &["util", "map"],
+    types: &[(10, true, "List")],
+    ..EMPTY
+};
+
+static DIFFERENT_NAMES: [Case<'static>; 6] = [
+    (
+        &[Written {
+            types: &[(2, false, "map")],
+            ..SHOP
+        }],
+        &[UTIL_MAP],
+        0,
+        0,
+    ),
+    (
+        &[Written {
+            types: &[(2, false, "A"), (3, false, "util")],
+            ..SHOP
+        }],
+        &[UTIL_MAP],
+        3,
+        22,
+    ),
+    (
+        &[Written {
+            types: &[(2, false, "java")],
+            ..SHOP
+        }],
+        &[UTIL_MAP],
+        2,
+        22,
+    ),
+    (
+        &[Written {
+            types: &[(2, false, "lang")],
+            ..SHOP
+        }],
+        &[UTIL_MAP],
+        0,
+        0,
+    ),
+    (
+        &[Written {
+            package: &["Object", "a"],
+            ..EMPTY
+        }],
+        &[UTIL_MAP],
+        1,
+        22,
+    ),
+    (
+        &[Written {
+            package: &["a", "Object"],
+            ..EMPTY
+        }],
+        &[UTIL_MAP],
+        0,
+        0,
+    ),
+];
+
+#[test]
+fn types_and_packages_have_different_names(rt: HostRuntime) -> Result<(), Fail> {
+    assert_eq!(rt; first_wrong(rt.alloc(), &DIFFERENT_NAMES), None);
+    Ok(())
+}
+
+const UTIL: Written<'static> = Written {
+    id: 9,
+    package: &["util"],
+    types: &[(10, true, "List"), (11, true, "Map")],
+    ..EMPTY
+};
+
+static OWN_NAMES: [Case<'static>; 4] = [
+    (
+        &[Written {
+            types: &[(2, false, "Lists")],
+            ..SHOP
+        }],
+        &[UTIL],
+        0,
+        0,
+    ),
+    (
+        &[Written {
+            types: &[(2, false, "List")],
+            ..SHOP
+        }],
+        &[UTIL],
+        10,
+        23,
+    ),
+    (
+        &[Written {
+            types: &[(2, false, "A"), (3, true, "A")],
+            ..SHOP
+        }],
+        &[UTIL],
+        3,
+        23,
+    ),
+    (
+        &[Written {
+            types: &[(2, false, "String")],
+            ..SHOP
+        }],
+        &[UTIL],
+        2,
+        23,
+    ),
+];
+
+#[test]
+fn types_have_names_of_their_own(rt: HostRuntime) -> Result<(), Fail> {
+    assert_eq!(rt; first_wrong(rt.alloc(), &OWN_NAMES), None);
+    Ok(())
+}
+
+// ---- what simple names mean
+
+/// User types: 16 shop.Cart (public), 17 shop.Item, 18 shop.List. The files are 0 and 1.
+static USER: [Written<'static>; 2] = [
+    Written {
+        id: 0,
+        package: &["shop"],
+        imports: &[(1, false, &["util", "List"]), (2, true, &["more"])],
+        types: &[(3, true, "Cart"), (4, false, "Item"), (5, false, "List")],
+    },
+    Written {
+        id: 6,
+        package: &["shop"],
+        imports: &[(7, true, &["util"]), (8, false, &["more", "Map"])],
+        types: &[],
+    },
+];
+
+/// Library types: 19 util.List, 20 util.Hidden (not public), 21 util.Map, 22 more.Map, 23 more.Helper (not public). The files are 2 and 3.
+static LIB: [Written<'static>; 2] = [
+    Written {
+        id: 9,
+        package: &["util"],
+        imports: &[],
+        types: &[(12, true, "List"), (13, false, "Hidden"), (14, true, "Map")],
+    },
+    Written {
+        id: 15,
+        package: &["more"],
+        imports: &[(16, true, &["util"])],
+        types: &[(17, true, "Map"), (18, false, "Helper")],
+    },
+];
+
+/// A file, a simple name, and the number of the type that it means there, or none.
+type Meaning = (u32, &'static str, Option<u32>);
+
+/// Whether a name means this in a file.
+fn means(names: &mut Names, table: &TypeNames, (file, text, want): Meaning) -> bool {
+    match name(names, text) {
+        Ok(asked) => table.meant(file, asked) == want,
+        Err(_) => false,
+    }
+}
+
+/// The place of the first name that means something else, or none.
+fn first_misread(alloc: Global, cases: &[Meaning]) -> Result<Option<usize>, NoMemory> {
+    let mut program = Program::of(alloc, &USER, &LIB)?;
+    let table = program.table(alloc)?;
+    for (at, case) in cases.iter().enumerate() {
+        if !means(&mut program.names, &table, *case) {
+            return Ok(Some(at));
+        }
+    }
+    Ok(None)
+}
+
+static SEEN: [Meaning; 9] = [
+    // the own package, also from another file of it
+    (0, "Item", Some(17)),
+    (1, "Cart", Some(16)),
+    // A single-type import shadows the own package's type.
+    (0, "List", Some(19)),
+    // The own package's type shadows an import on demand.
+    (1, "List", Some(18)),
+    // an import on demand
+    (0, "Map", Some(22)),
+    // A single-type import shadows an import on demand.
+    (1, "Map", Some(22)),
+    // java.lang in each file, but not java.io
+    (0, "String", Some(1)),
+    (3, "ArithmeticException", Some(8)),
+    (0, "PrintStream", None),
+];
+
+#[test]
+fn a_simple_name_means_what_the_file_sees(rt: HostRuntime) -> Result<(), Fail> {
+    assert_eq!(rt; first_misread(rt.alloc(), &SEEN)?, None);
+    Ok(())
+}
+
+static NOT_OPEN: [Meaning; 8] = [
+    // not public in another package
+    (1, "Hidden", None),
+    (0, "Helper", None),
+    // not public in the own package
+    (2, "Hidden", Some(20)),
+    // A library file sees no type of a user file.
+    (2, "Cart", None),
+    // the own package before an import on demand, in a library file
+    (3, "Map", Some(22)),
+    (3, "List", Some(19)),
+    // a name that no type has, and a file that is none
+    (0, "shop", None),
+    (4, "Object", None),
+];
+
+#[test]
+fn a_simple_name_means_no_type_that_is_not_open(rt: HostRuntime) -> Result<(), Fail> {
+    assert_eq!(rt; first_misread(rt.alloc(), &NOT_OPEN)?, None);
+    Ok(())
+}
+
+// ---- imports
+
+/// Whether this is the first import that names nothing, with the number 1.
+fn import_breaks(
     alloc: Global,
     user: &[Written<'_>],
     lib: &[Written<'_>],
     node: u32,
     rule: u8,
 ) -> Result<bool, NoMemory> {
-    let mut names = Names::new(alloc)?;
-    let java = java_names(&mut names)?;
-    let user = units(alloc, &mut names, user)?;
-    let lib = units(alloc, &mut names, lib)?;
-    let first = first_name_breach(alloc, java, &user, &lib)?;
+    let program = Program::of(alloc, user, lib)?;
+    let table = program.table(alloc)?;
+    let first = table.first_import_breach(program.java, &program.user, &program.lib);
     Ok(first == breach(node, rule))
 }
 
-// Whether this is the number of the first import that names nothing; 0 for none.
-fn import_breaks(
-    alloc: Global,
-    user: &[Written<'_>],
-    lib: &[Written<'_>],
-    node: u32,
-) -> Result<bool, NoMemory> {
-    let mut names = Names::new(alloc)?;
-    let java = java_names(&mut names)?;
-    let user = units(alloc, &mut names, user)?;
-    let lib = units(alloc, &mut names, lib)?;
-    let table = TypeNames::of(alloc, java, &user, &lib)?;
-    let first = table.first_import_breach(java, &user, &lib);
-    Ok(first == breach(node, 1))
-}
-
-fn breach(node: u32, rule: u8) -> Option<Breach> {
-    if node == 0 && rule <= 1 {
-        return None;
+/// The place of the first case in which another import is the first that names nothing, or none.
+fn first_wrong_import(alloc: Global, cases: &[Case<'_>]) -> Result<Option<usize>, NoMemory> {
+    for (at, (user, lib, node, rule)) in cases.iter().enumerate() {
+        if !import_breaks(alloc, user, lib, *node, *rule)? {
+            return Ok(Some(at));
+        }
     }
-    Some(Breach { node, rule })
+    Ok(None)
 }
 
-#[test]
-fn user_files_are_in_one_package(rt: HostRuntime) -> Result<(), Fail> {
-    let alloc = rt.alloc();
-    let a = of(1, &["shop"], &[(2, false, "A")]);
-    let b = of(3, &["shop"], &[(4, false, "B")]);
-    let c = of(5, &["shop", "till"], &[]);
-    let d = of(6, &["shop"], &[]);
-    assert!(rt; breaks(alloc, &[a, b], &[], 0, 0)?);
-    assert!(rt; breaks(alloc, &[a, b, c, d], &[], 5, 14)?);
-    Ok(())
-}
+/// An import, on demand or not, and whether it names something in a file of `shop` with a class A.
+type Named = (bool, &'static [&'static str], bool);
 
-#[test]
-fn user_packages_are_their_own(rt: HostRuntime) -> Result<(), Fail> {
-    let alloc = rt.alloc();
-    let lib = of(9, &["java", "util"], &[]);
-    let unnamed = of(9, &[], &[]);
-    assert!(rt; breaks(alloc, &[of(1, &["java", "util", "own"], &[])], &[lib], 0, 0)?);
-    assert!(rt; breaks(alloc, &[of(1, &["java", "util"], &[])], &[lib], 1, 15)?);
-    assert!(rt; breaks(alloc, &[of(1, &["java", "io"], &[])], &[lib], 1, 15)?);
-    // Both files are in the unnamed package: the user file's rule comes first.
-    assert!(rt; breaks(alloc, &[of(1, &[], &[])], &[unnamed], 1, 15)?);
-    assert!(rt; breaks(alloc, &[of(1, &["own"], &[])], &[unnamed], 9, 20)?);
-    assert!(rt; breaks(alloc, &[of(1, &[], &[])], &[lib], 0, 0)?);
-    Ok(())
-}
-
-#[test]
-fn types_and_packages_have_different_names(rt: HostRuntime) -> Result<(), Fail> {
-    let alloc = rt.alloc();
-    let lib = of(9, &["util", "map"], &[(10, true, "List")]);
-    assert!(rt;
-        breaks(
-            alloc,
-            &[of(1, &["shop"], &[(2, false, "map")])],
-            &[lib],
-            0,
-            0
-        )?
-    );
-    assert!(rt;
-        breaks(
-            alloc,
-            &[of(1, &["shop"], &[(2, false, "A"), (3, false, "util")])],
-            &[lib],
-            3,
-            22
-        )?
-    );
-    assert!(rt;
-        breaks(
-            alloc,
-            &[of(1, &["shop"], &[(2, false, "java")])],
-            &[lib],
-            2,
-            22
-        )?
-    );
-    assert!(rt;
-        breaks(
-            alloc,
-            &[of(1, &["shop"], &[(2, false, "lang")])],
-            &[lib],
-            0,
-            0
-        )?
-    );
-    assert!(rt; breaks(alloc, &[of(1, &["Object", "a"], &[])], &[lib], 1, 22)?);
-    assert!(rt; breaks(alloc, &[of(1, &["a", "Object"], &[])], &[lib], 0, 0)?);
-    Ok(())
-}
-
-#[test]
-fn types_have_names_of_their_own(rt: HostRuntime) -> Result<(), Fail> {
-    let alloc = rt.alloc();
-    let lib = of(9, &["util"], &[(10, true, "List"), (11, true, "Map")]);
-    assert!(rt;
-        breaks(
-            alloc,
-            &[of(1, &["shop"], &[(2, false, "Lists")])],
-            &[lib],
-            0,
-            0
-        )?
-    );
-    assert!(rt;
-        breaks(
-            alloc,
-            &[of(1, &["shop"], &[(2, false, "List")])],
-            &[lib],
-            10,
-            23
-        )?
-    );
-    assert!(rt;
-        breaks(
-            alloc,
-            &[of(1, &["shop"], &[(2, false, "A"), (3, true, "A")])],
-            &[lib],
-            3,
-            23
-        )?
-    );
-    assert!(rt;
-        breaks(
-            alloc,
-            &[of(1, &["shop"], &[(2, false, "String")])],
-            &[lib],
-            2,
-            23
-        )?
-    );
-    Ok(())
-}
-
-// Whether a name means the type of this number in a file, or none. User types: 16 shop.Cart (public), 17 shop.Item, 18 shop.List. Library types: 19 util.List,
-// 20 util.Hidden (not public), 21 util.Map, 22 more.Map, 23 more.Helper (not public). The user files are 0 and 1, the library files 2 and 3.
-fn means(alloc: Global, file: u32, text: &str, want: Option<u32>) -> Result<bool, NoMemory> {
-    let mut names = Names::new(alloc)?;
-    let java = java_names(&mut names)?;
-    let user = units(
-        alloc,
-        &mut names,
-        &[
-            Written {
-                id: 0,
-                package: &["shop"],
-                imports: &[(1, false, &["util", "List"]), (2, true, &["more"])],
-                types: &[(3, true, "Cart"), (4, false, "Item"), (5, false, "List")],
-            },
-            Written {
-                id: 6,
-                package: &["shop"],
-                imports: &[(7, true, &["util"]), (8, false, &["more", "Map"])],
-                types: &[],
-            },
-        ],
-    )?;
-    let lib = units(
-        alloc,
-        &mut names,
-        &[
-            of(
-                9,
-                &["util"],
-                &[(12, true, "List"), (13, false, "Hidden"), (14, true, "Map")],
-            ),
-            Written {
-                id: 15,
-                package: &["more"],
-                imports: &[(16, true, &["util"])],
-                types: &[(17, true, "Map"), (18, false, "Helper")],
-            },
-        ],
-    )?;
-    let table = TypeNames::of(alloc, java, &user, &lib)?;
-    let asked = name(&mut names, text)?;
-    Ok(table.meant(file, asked) == want)
-}
-
-#[test]
-fn a_simple_name_means_what_the_file_sees(rt: HostRuntime) -> Result<(), Fail> {
-    let alloc = rt.alloc();
-    // the own package, also from another file of it
-    assert!(rt; means(alloc, 0, "Item", Some(17))?);
-    assert!(rt; means(alloc, 1, "Cart", Some(16))?);
-    // A single-type import shadows the own package's type.
-    assert!(rt; means(alloc, 0, "List", Some(19))?);
-    // The own package's type shadows an import on demand.
-    assert!(rt; means(alloc, 1, "List", Some(18))?);
-    // an import on demand
-    assert!(rt; means(alloc, 0, "Map", Some(22))?);
-    // A single-type import shadows an import on demand.
-    assert!(rt; means(alloc, 1, "Map", Some(22))?);
-    // java.lang in each file, but not java.io
-    assert!(rt; means(alloc, 0, "String", Some(1))?);
-    assert!(rt; means(alloc, 3, "ArithmeticException", Some(8))?);
-    assert!(rt; means(alloc, 0, "PrintStream", None)?);
-    Ok(())
-}
-
-#[test]
-fn a_simple_name_means_no_type_that_is_not_open(rt: HostRuntime) -> Result<(), Fail> {
-    let alloc = rt.alloc();
-    // not public in another package
-    assert!(rt; means(alloc, 1, "Hidden", None)?);
-    assert!(rt; means(alloc, 0, "Helper", None)?);
-    // not public in the own package
-    assert!(rt; means(alloc, 2, "Hidden", Some(20))?);
-    // A library file sees no type of a user file.
-    assert!(rt; means(alloc, 2, "Cart", None)?);
-    // the own package before an import on demand, in a library file
-    assert!(rt; means(alloc, 3, "Map", Some(22))?);
-    assert!(rt; means(alloc, 3, "List", Some(19))?);
-    // a name that no type has, and a file that is none
-    assert!(rt; means(alloc, 0, "shop", None)?);
-    assert!(rt; means(alloc, 4, "Object", None)?);
-    Ok(())
-}
-
-// Whether an import in a file of `shop` with a class A names something.
-fn is_named(alloc: Global, all: bool, words: &[&str]) -> Result<bool, NoMemory> {
+fn is_so(alloc: Global, (all, words, is_named): Named) -> Result<bool, NoMemory> {
     let user = Written {
         id: 5,
         package: &["shop"],
         imports: &[(6, all, words)],
         types: &[(7, false, "A")],
     };
-    let lib = of(
-        90,
-        &["util", "map"],
-        &[(91, true, "Map"), (92, false, "Hidden")],
-    );
-    import_breaks(alloc, &[user], &[lib], 0)
+    let lib = Written {
+        id: 90,
+        package: &["util", "map"],
+        imports: &[],
+        types: &[(91, true, "Map"), (92, false, "Hidden")],
+    };
+    let names_all = import_breaks(alloc, &[user], &[lib], 0, 0)?;
+    Ok(names_all == is_named)
 }
+
+fn first_misnamed(alloc: Global, cases: &[Named]) -> Result<Option<usize>, NoMemory> {
+    for (at, case) in cases.iter().enumerate() {
+        if !is_so(alloc, *case)? {
+            return Ok(Some(at));
+        }
+    }
+    Ok(None)
+}
+
+static NAMED: [Named; 12] = [
+    (false, &["util", "map", "Map"], true),
+    (false, &["java", "lang", "String"], true),
+    (false, &["java", "io", "PrintStream"], true),
+    (false, &["shop", "A"], true),
+    (false, &["util", "map", "Hidden"], false),
+    (false, &["util", "map"], false),
+    (false, &["Map"], false),
+    (true, &["util", "map"], true),
+    (true, &["shop"], true),
+    (true, &["java", "io"], true),
+    (true, &["util"], false),
+    (true, &["java"], false),
+];
 
 #[test]
 fn an_import_names_a_type_or_a_package(rt: HostRuntime) -> Result<(), Fail> {
-    let alloc = rt.alloc();
-    assert!(rt; is_named(alloc, false, &["util", "map", "Map"])?);
-    assert!(rt; is_named(alloc, false, &["java", "lang", "String"])?);
-    assert!(rt; is_named(alloc, false, &["java", "io", "PrintStream"])?);
-    assert!(rt; is_named(alloc, false, &["shop", "A"])?);
-    assert!(rt; !is_named(alloc, false, &["util", "map", "Hidden"])?);
-    assert!(rt; !is_named(alloc, false, &["util", "map"])?);
-    assert!(rt; !is_named(alloc, false, &["Map"])?);
-    assert!(rt; is_named(alloc, true, &["util", "map"])?);
-    assert!(rt; is_named(alloc, true, &["shop"])?);
-    assert!(rt; is_named(alloc, true, &["java", "io"])?);
-    assert!(rt; !is_named(alloc, true, &["util"])?);
-    assert!(rt; !is_named(alloc, true, &["java"])?);
+    assert_eq!(rt; first_misnamed(rt.alloc(), &NAMED)?, None);
     Ok(())
 }
+
+const CART: Written<'static> = Written {
+    types: &[(2, true, "Cart")],
+    ..SHOP
+};
+
+const SINGLE: Written<'static> = Written {
+    id: 9,
+    package: &["util"],
+    imports: &[(10, false, &["shop", "Cart"])],
+    types: &[],
+};
+
+const ON_DEMAND: Written<'static> = Written {
+    id: 9,
+    package: &["util"],
+    imports: &[(10, true, &["util"]), (11, true, &["shop"])],
+    types: &[],
+};
+
+const UNNAMED_A: Written<'static> = Written {
+    imports: &[(2, false, &["A"])],
+    types: &[(3, false, "A")],
+    ..EMPTY
+};
+
+static OF_USER: [Case<'static>; 3] = [
+    (&[CART], &[SINGLE], 10, 1),
+    (&[CART], &[ON_DEMAND], 11, 1),
+    // In the unnamed package a type is imported by its name alone.
+    (&[UNNAMED_A], &[], 0, 0),
+];
 
 #[test]
 fn a_library_file_imports_no_user_type(rt: HostRuntime) -> Result<(), Fail> {
-    let alloc = rt.alloc();
-    let cart = of(1, &["shop"], &[(2, true, "Cart")]);
-    let single = Written {
-        id: 9,
-        package: &["util"],
-        imports: &[(10, false, &["shop", "Cart"])],
-        types: &[],
-    };
-    let demand = Written {
-        id: 9,
-        package: &["util"],
-        imports: &[(10, true, &["util"]), (11, true, &["shop"])],
-        types: &[],
-    };
-    let here = Written {
-        id: 1,
-        package: &[],
-        imports: &[(2, false, &["A"])],
-        types: &[(3, false, "A")],
-    };
-    assert!(rt; import_breaks(alloc, &[cart], &[single], 10)?);
-    assert!(rt; import_breaks(alloc, &[cart], &[demand], 11)?);
-    // In the unnamed package a type is imported by its name alone.
-    assert!(rt; import_breaks(alloc, &[here], &[], 0)?);
+    assert_eq!(rt; first_wrong_import(rt.alloc(), &OF_USER)?, None);
     Ok(())
 }
 
+const IN_A: Written<'static> = Written {
+    id: 20,
+    package: &["a"],
+    types: &[(21, true, "T")],
+    ..EMPTY
+};
+
+const IN_A_B: Written<'static> = Written {
+    id: 22,
+    package: &["a", "b"],
+    types: &[(23, true, "U")],
+    ..EMPTY
+};
+
+const IN_A_B_C: Written<'static> = Written {
+    id: 24,
+    package: &["a", "b", "c"],
+    types: &[(25, true, "V")],
+    ..EMPTY
+};
+
+const IMPORTS_ALL: Written<'static> = Written {
+    imports: &[
+        (2, true, &["a"]),
+        (3, false, &["a", "T"]),
+        (4, true, &["a", "b"]),
+        (5, false, &["a", "b", "U"]),
+        (6, true, &["a", "b", "c"]),
+        (7, false, &["a", "b", "c", "V"]),
+    ],
+    ..SHOP
+};
+
+static ALIKE_IMPORTED: [Case<'static>; 6] = [
+    (&[IMPORTS_ALL], &[IN_A, IN_A_B, IN_A_B_C], 0, 0),
+    (&[IMPORTS_ALL], &[IN_A_B_C, IN_A_B, IN_A], 0, 0),
+    (&[IMPORTS_ALL], &[IN_A_B, IN_A_B_C], 2, 1),
+    (&[IMPORTS_ALL], &[IN_A, IN_A_B_C], 4, 1),
+    (&[IMPORTS_ALL], &[IN_A_B_C, IN_A], 4, 1),
+    (&[IMPORTS_ALL], &[IN_A_B, IN_A], 6, 1),
+];
+
+const USER_A_B: Written<'static> = Written {
+    package: &["a", "b"],
+    ..EMPTY
+};
+
+static ALIKE: [Case<'static>; 3] = [
+    (&[USER_A_B], &[IN_A, IN_A_B_C], 0, 0),
+    (&[USER_A_B], &[IN_A_B_C, IN_A], 0, 0),
+    (&[USER_A_B], &[IN_A, IN_A_B_C, IN_A_B], 1, 15),
+];
+
 #[test]
 fn packages_that_begin_alike_are_apart(rt: HostRuntime) -> Result<(), Fail> {
-    let alloc = rt.alloc();
-    let a = of(20, &["a"], &[(21, true, "T")]);
-    let ab = of(22, &["a", "b"], &[(23, true, "U")]);
-    let abc = of(24, &["a", "b", "c"], &[(25, true, "V")]);
-    let asks = Written {
-        id: 1,
-        package: &["shop"],
-        imports: &[
-            (2, true, &["a"]),
-            (3, false, &["a", "T"]),
-            (4, true, &["a", "b"]),
-            (5, false, &["a", "b", "U"]),
-            (6, true, &["a", "b", "c"]),
-            (7, false, &["a", "b", "c", "V"]),
-        ],
-        types: &[],
-    };
-    assert!(rt; import_breaks(alloc, &[asks], &[a, ab, abc], 0)?);
-    assert!(rt; import_breaks(alloc, &[asks], &[abc, ab, a], 0)?);
-    assert!(rt; import_breaks(alloc, &[asks], &[ab, abc], 2)?);
-    assert!(rt; import_breaks(alloc, &[asks], &[a, abc], 4)?);
-    assert!(rt; import_breaks(alloc, &[asks], &[abc, a], 4)?);
-    assert!(rt; import_breaks(alloc, &[asks], &[ab, a], 6)?);
-    let own = of(1, &["a", "b"], &[]);
-    assert!(rt; breaks(alloc, &[own], &[a, abc], 0, 0)?);
-    assert!(rt; breaks(alloc, &[own], &[abc, a], 0, 0)?);
-    assert!(rt; breaks(alloc, &[own], &[a, abc, ab], 1, 15)?);
+    assert_eq!(rt; first_wrong_import(rt.alloc(), &ALIKE_IMPORTED)?, None);
+    assert_eq!(rt; first_wrong(rt.alloc(), &ALIKE), None);
     Ok(())
 }

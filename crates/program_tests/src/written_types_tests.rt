@@ -1,8 +1,6 @@
 //! Written types in a program of a user file `import p.*; class A {}` and a library file `package p; public class L<E> {} public class M<K, V> {}`. Whether a type
 //! stands was asked of javac 17, as the type of a field.
 
-ghost use Rattle.std.specs.Prelude.{◌≡◌, ◌≤◌, length, IfOk};
-
 use class_world::{JavaType, TypeInfo};
 use java_tree::tree::{
     Head, Import, Mod, Name, Node, Primitive, SourceUnit, Span, TypeDecl, TypeExpr,
@@ -35,6 +33,8 @@ const VARIABLE: u32 = 200;
 
 const ARRAY: u32 = 300;
 
+const NULL: u32 = 400;
+
 fn node(id: u32) -> Node {
     let span = Span { from: 0, to: 0 };
     Node { id, span }
@@ -63,18 +63,26 @@ fn part(
     })
 }
 
-// A written type by its parts, each behind its arguments: the node, the name, the number of arguments and of array levels.
-fn written(alloc: Global, parts: &[(u32, u32, u32, u32)]) -> Result<TypeExpr, NoMemory> {
+// A part of a written type, behind its arguments: the node, the name, the number of arguments and of array levels.
+type Part = (u32, u32, u32, u32);
+
+// The last types of these, in their order.
+fn last(alloc: Global, done: &mut Vec<TypeExpr>, count: u32) -> Result<Vec<TypeExpr>, NoMemory> {
+    let mut last = Vec::new(alloc);
+    for _ in 0..count {
+        if let Some(x) = done.pop() {
+            last.push(x)?;
+        }
+    }
+    last.reverse();
+    Ok(last)
+}
+
+fn written(alloc: Global, parts: &[Part]) -> Result<TypeExpr, NoMemory> {
     let mut done = Vec::new(alloc);
     for (id, name, arguments, dims) in parts {
-        let mut args = Vec::new(alloc);
-        for _ in 0..*arguments {
-            if let Some(x) = done.pop() {
-                args.push(x)?;
-            }
-        }
-        args.reverse();
-        done.push(part(alloc, *id, *name, Items::from_vec(args), *dims)?)?;
+        let args = Items::from_vec(last(alloc, &mut done, *arguments)?);
+        done.push(part(alloc, *id, *name, args, *dims)?)?;
     }
     done.pop().ok_or(NoMemory)
 }
@@ -93,31 +101,52 @@ fn class(alloc: Global, name: u32, params: &[Name]) -> Result<TypeDecl, NoMemory
     })
 }
 
-fn unit(alloc: Global, package: &[Name], types: Items<TypeDecl>) -> Result<SourceUnit, NoMemory>
-    ensures { IfOk result (λ u. u.types ≡ types) }
-{
+// The classes of these names and type parameters.
+fn classes(alloc: Global, given: &[(u32, &[Name])]) -> Result<Items<TypeDecl>, NoMemory> {
+    let mut types = Items::new(alloc);
+    for (name, params) in given {
+        types.push(class(alloc, *name, params)?)?;
+    }
+    Ok(types)
+}
+
+fn imports(alloc: Global) -> Result<Items<Import>, NoMemory> {
     let import = Import {
         node: node(0),
         path: Items::from_slice(alloc, &[Name(P)])?,
         all: true,
     };
+    Ok(Items::one(alloc, import)?)
+}
+
+fn unit(alloc: Global, package: &[Name], types: Items<TypeDecl>) -> Result<SourceUnit, NoMemory> {
+    let imports = imports(alloc)?;
     Ok(SourceUnit {
         node: node(0),
         package: Items::from_slice(alloc, package)?,
-        imports: Items::one(alloc, import)?,
+        imports,
         types,
     })
 }
 
-fn table(alloc: Global, user: SourceUnit, lib: SourceUnit) -> Result<TypeNames, NoMemory>
-    requires user { length user.types ≤ 2 }
-    requires lib { length lib.types ≤ 2 }
-{
+fn user_file(alloc: Global) -> Result<SourceUnit, NoMemory> {
+    let types = classes(alloc, &[(A, &[])])?;
+    unit(alloc, &[], types)
+}
+
+fn library_file(alloc: Global) -> Result<SourceUnit, NoMemory> {
+    let types = classes(alloc, &[(L, &[Name(E)]), (M, &[Name(25), Name(26)])])?;
+    unit(alloc, &[Name(P)], types)
+}
+
+fn type_names(alloc: Global) -> Result<TypeNames, NoMemory> {
     let java = JavaNames {
         java: Name(22),
         lang: Name(23),
         io: Name(24),
     };
+    let user = user_file(alloc)?;
+    let lib = library_file(alloc)?;
     TypeNames::of(alloc, java, &[user], &[lib])
 }
 
@@ -146,46 +175,58 @@ struct Program {
     types: Vec<TypeInfo>,
 }
 
-fn made(alloc: Global) -> Result<Program, NoMemory> {
-    let user = Items::one(alloc, class(alloc, A, &[])?)?;
-    let mut lib = Items::one(alloc, class(alloc, L, &[Name(E)])?)?;
-    lib.push(class(alloc, M, &[Name(25), Name(26)])?)?;
-    if user.len() > 2 || lib.len() > 2 {
-        return Err(NoMemory);
-    }
-    let names = table(
-        alloc,
-        unit(alloc, &[], user)?,
-        unit(alloc, &[Name(P)], lib)?,
-    )?;
+fn types(alloc: Global) -> Result<Vec<TypeInfo>, NoMemory> {
     let mut types = Vec::new(alloc);
     for number in 0..19 {
         types.push(info(alloc, number))?;
     }
+    Ok(types)
+}
+
+fn made(alloc: Global) -> Result<Program, NoMemory> {
+    let names = type_names(alloc)?;
+    let types = types(alloc)?;
     Ok(Program { names, types })
+}
+
+// The number of a type without its own parts.
+fn head_number(ty: &JavaType) -> u32 {
+    match ty {
+        JavaType::Prim(_) => INT,
+        JavaType::Null => NULL,
+        JavaType::Class(number, _) => *number,
+        JavaType::Var(k) => VARIABLE.wrapping_add(*k),
+        JavaType::Array(_) => ARRAY,
+    }
+}
+
+// Puts types on a stack, the first on top.
+fn stack_all<'a>(stack: &mut Vec<&'a JavaType>, types: &'a [JavaType]) -> Result<(), NoMemory> {
+    for ty in types.iter().rev() {
+        stack.push(ty)?;
+    }
+    Ok(())
+}
+
+// Puts the parts of a type on a stack, the first on top.
+fn stack_parts<'a>(stack: &mut Vec<&'a JavaType>, ty: &'a JavaType) -> Result<(), NoMemory> {
+    match ty {
+        JavaType::Class(_, args) => stack_all(stack, args.as_slice()),
+        JavaType::Array(element) => Ok(stack.push(element.get())?),
+        _ => Ok(()),
+    }
 }
 
 // A type as the list of its parts, each before its own.
 fn parts(alloc: Global, ty: &JavaType) -> Result<Vec<u32>, NoMemory> {
-    let mut open_ = vec![in alloc; ty]?;
+    let mut stack = vec![in alloc; ty]?;
     let mut parts = Vec::new(alloc);
     for _ in 0..20 {
-        match open_.pop() {
-            None => return Ok(parts),
-            Some(JavaType::Prim(_)) => parts.push(INT)?,
-            Some(JavaType::Null) => {}
-            Some(JavaType::Class(number, args)) => {
-                parts.push(*number)?;
-                for arg in args.as_slice().iter().rev() {
-                    open_.push(arg)?;
-                }
-            }
-            Some(JavaType::Var(k)) => parts.push(VARIABLE.wrapping_add(*k))?,
-            Some(JavaType::Array(element)) => {
-                parts.push(ARRAY)?;
-                open_.push(element.get())?;
-            }
-        }
+        let Some(ty) = stack.pop() else {
+            return Ok(parts);
+        };
+        parts.push(head_number(ty))?;
+        stack_parts(&mut stack, ty)?;
     }
     Ok(parts)
 }
@@ -213,13 +254,7 @@ fn answers(
 }
 
 // Whether a written type says the type of these parts, or none where there are none, and breaks DR1 first at this node, or nowhere where it is 0.
-fn says(
-    alloc: Global,
-    scope: &Scope<'_>,
-    x: &[(u32, u32, u32, u32)],
-    wanted: &[u32],
-    ill_named: u32,
-) -> bool {
+fn says(alloc: Global, scope: &Scope<'_>, x: &[Part], wanted: &[u32], ill_named: u32) -> bool {
     match written(alloc, x) {
         Err(_) => false,
         Ok(x) => {
@@ -238,190 +273,181 @@ fn scope<'a>(p: &'a Program, file: u32, vars: &'a [Name]) -> Scope<'a> {
     }
 }
 
+// A written type, the parts of the type that it says, and the node at which it breaks DR1 first, as `says` has them.
+type Case = (&'static [Part], &'static [u32], u32);
+
+// The place of the first case with another answer, in a file under type parameters, or none.
+fn first_wrong(
+    alloc: Global,
+    file: u32,
+    vars: &[Name],
+    cases: &[Case],
+) -> Result<Option<usize>, NoMemory> {
+    let p = made(alloc)?;
+    let scope = scope(&p, file, vars);
+    for (at, (x, wanted, ill_named)) in cases.iter().enumerate() {
+        if !says(alloc, &scope, x, wanted, *ill_named) {
+            return Ok(Some(at));
+        }
+    }
+    Ok(None)
+}
+
+static NAMES: [Case; 6] = [
+    // A
+    (&[(1, A, 0, 0)], &[A], 0),
+    // L
+    (&[(1, L, 0, 0)], &[L], 0),
+    // M
+    (&[(1, M, 0, 0)], &[M], 0),
+    // L<A>
+    (&[(2, A, 0, 0), (1, L, 1, 0)], &[L, A], 0),
+    // M<A, L<A>>
+    (
+        &[(2, A, 0, 0), (4, A, 0, 0), (3, L, 1, 0), (1, M, 2, 0)],
+        &[M, A, L, A],
+        0,
+    ),
+    // String
+    (&[(1, STRING, 0, 0)], &[STRING], 0),
+];
+
 #[test]
 fn names_with_and_without_arguments(rt: HostRuntime) -> Result<(), Fail> {
-    let a = rt.alloc();
-    let p = made(a)?;
-    let s = scope(&p, 0, &[Name(E)]);
-    // A
-    assert!(rt; says(a, &s, &[(1, A, 0, 0)], &[A], 0));
-    // L
-    assert!(rt; says(a, &s, &[(1, L, 0, 0)], &[L], 0));
-    // M
-    assert!(rt; says(a, &s, &[(1, M, 0, 0)], &[M], 0));
-    // L<A>
-    assert!(rt; says(a, &s, &[(2, A, 0, 0), (1, L, 1, 0)], &[L, A], 0));
-    // M<A, L<A>>
-    assert!(rt;
-        says(
-            a,
-            &s,
-            &[(2, A, 0, 0), (4, A, 0, 0), (3, L, 1, 0), (1, M, 2, 0)],
-            &[M, A, L, A],
-            0
-        )
-    );
-    // String
-    assert!(rt; says(a, &s, &[(1, STRING, 0, 0)], &[STRING], 0));
+    assert_eq!(rt; first_wrong(rt.alloc(), 0, &[Name(E)], &NAMES)?, None);
     Ok(())
 }
+
+static NO_TYPES: [Case; 6] = [
+    // M<A>
+    (&[(2, A, 0, 0), (1, M, 1, 0)], &[], 1),
+    // L<A, A>
+    (&[(2, A, 0, 0), (3, A, 0, 0), (1, L, 2, 0)], &[], 1),
+    // A<A>
+    (&[(2, A, 0, 0), (1, A, 1, 0)], &[], 1),
+    // X
+    (&[(1, X, 0, 0)], &[], 1),
+    // X[]
+    (&[(1, X, 0, 1)], &[], 1),
+    // L<X>
+    (&[(2, X, 0, 0), (1, L, 1, 0)], &[], 2),
+];
 
 #[test]
 fn names_of_no_type(rt: HostRuntime) -> Result<(), Fail> {
-    let a = rt.alloc();
-    let p = made(a)?;
-    let s = scope(&p, 0, &[Name(E)]);
-    // M<A>
-    assert!(rt; says(a, &s, &[(2, A, 0, 0), (1, M, 1, 0)], &[], 1));
-    // L<A, A>
-    assert!(rt; says(a, &s, &[(2, A, 0, 0), (3, A, 0, 0), (1, L, 2, 0)], &[], 1));
-    // A<A>
-    assert!(rt; says(a, &s, &[(2, A, 0, 0), (1, A, 1, 0)], &[], 1));
-    // X
-    assert!(rt; says(a, &s, &[(1, X, 0, 0)], &[], 1));
-    // X[]
-    assert!(rt; says(a, &s, &[(1, X, 0, 1)], &[], 1));
-    // L<X>
-    assert!(rt; says(a, &s, &[(2, X, 0, 0), (1, L, 1, 0)], &[], 2));
+    assert_eq!(rt; first_wrong(rt.alloc(), 0, &[Name(E)], &NO_TYPES)?, None);
     Ok(())
 }
+
+static ARRAYS: [Case; 5] = [
+    // int
+    (&[(1, INT_WORD, 0, 0)], &[INT], 0),
+    // int[]
+    (&[(1, INT_WORD, 0, 1)], &[ARRAY, INT], 0),
+    // String[][]
+    (&[(1, STRING, 0, 2)], &[ARRAY, ARRAY, STRING], 0),
+    // L<int[]>
+    (&[(2, INT_WORD, 0, 1), (1, L, 1, 0)], &[L, ARRAY, INT], 0),
+    // L<E[]>
+    (&[(2, E, 0, 1), (1, L, 1, 0)], &[L, ARRAY, VARIABLE], 0),
+];
 
 #[test]
 fn arrays_and_primitive_types(rt: HostRuntime) -> Result<(), Fail> {
-    let a = rt.alloc();
-    let p = made(a)?;
-    let s = scope(&p, 0, &[Name(E)]);
-    // int
-    assert!(rt; says(a, &s, &[(1, INT_WORD, 0, 0)], &[INT], 0));
-    // int[]
-    assert!(rt; says(a, &s, &[(1, INT_WORD, 0, 1)], &[ARRAY, INT], 0));
-    // String[][]
-    assert!(rt; says(a, &s, &[(1, STRING, 0, 2)], &[ARRAY, ARRAY, STRING], 0));
-    // L<int[]>
-    assert!(rt;
-        says(
-            a,
-            &s,
-            &[(2, INT_WORD, 0, 1), (1, L, 1, 0)],
-            &[L, ARRAY, INT],
-            0
-        )
-    );
-    // L<E[]>
-    assert!(rt;
-        says(
-            a,
-            &s,
-            &[(2, E, 0, 1), (1, L, 1, 0)],
-            &[L, ARRAY, VARIABLE],
-            0
-        )
-    );
+    assert_eq!(rt; first_wrong(rt.alloc(), 0, &[Name(E)], &ARRAYS)?, None);
     Ok(())
 }
+
+static NESTED: [Case; 6] = [
+    // L<L>
+    (&[(2, L, 0, 0), (1, L, 1, 0)], &[L, L], 0),
+    // L<M<A>>
+    (&[(3, A, 0, 0), (2, M, 1, 0), (1, L, 1, 0)], &[], 2),
+    // L<A<int[]>>
+    (&[(3, INT_WORD, 0, 1), (2, A, 1, 0), (1, L, 1, 0)], &[], 2),
+    // L<L<L<A>>>
+    (
+        &[(4, A, 0, 0), (3, L, 1, 0), (2, L, 1, 0), (1, L, 1, 0)],
+        &[L, L, L, A],
+        0,
+    ),
+    // M<X, A<A>>
+    (
+        &[(2, X, 0, 0), (4, A, 0, 0), (3, A, 1, 0), (1, M, 2, 0)],
+        &[],
+        2,
+    ),
+    // M<X, A<A>>, its nodes counted backwards
+    (
+        &[(8, X, 0, 0), (6, A, 0, 0), (7, A, 1, 0), (9, M, 2, 0)],
+        &[],
+        7,
+    ),
+];
 
 #[test]
 fn arguments_within_arguments(rt: HostRuntime) -> Result<(), Fail> {
-    let a = rt.alloc();
-    let p = made(a)?;
-    let s = scope(&p, 0, &[Name(E)]);
-    // L<L>
-    assert!(rt; says(a, &s, &[(2, L, 0, 0), (1, L, 1, 0)], &[L, L], 0));
-    // L<M<A>>
-    assert!(rt; says(a, &s, &[(3, A, 0, 0), (2, M, 1, 0), (1, L, 1, 0)], &[], 2));
-    // L<A<int[]>>
-    assert!(rt;
-        says(
-            a,
-            &s,
-            &[(3, INT_WORD, 0, 1), (2, A, 1, 0), (1, L, 1, 0)],
-            &[],
-            2
-        )
-    );
-    // L<L<L<A>>>
-    assert!(rt;
-        says(
-            a,
-            &s,
-            &[(4, A, 0, 0), (3, L, 1, 0), (2, L, 1, 0), (1, L, 1, 0)],
-            &[L, L, L, A],
-            0
-        )
-    );
-    // M<X, A<A>>
-    assert!(rt;
-        says(
-            a,
-            &s,
-            &[(2, X, 0, 0), (4, A, 0, 0), (3, A, 1, 0), (1, M, 2, 0)],
-            &[],
-            2
-        )
-    );
-    // M<X, A<A>>, its nodes counted backwards
-    assert!(rt;
-        says(
-            a,
-            &s,
-            &[(8, X, 0, 0), (6, A, 0, 0), (7, A, 1, 0), (9, M, 2, 0)],
-            &[],
-            7
-        )
-    );
+    assert_eq!(rt; first_wrong(rt.alloc(), 0, &[Name(E)], &NESTED)?, None);
     Ok(())
 }
+
+static PARAMETERS: [Case; 4] = [
+    // E
+    (&[(1, E, 0, 0)], &[VARIABLE], 0),
+    // E<A>
+    (&[(2, A, 0, 0), (1, E, 1, 0)], &[], 1),
+    // L<E>
+    (&[(2, E, 0, 0), (1, L, 1, 0)], &[L, VARIABLE], 0),
+    // E[]
+    (&[(1, E, 0, 1)], &[ARRAY, VARIABLE], 0),
+];
 
 #[test]
 fn type_parameters(rt: HostRuntime) -> Result<(), Fail> {
-    let a = rt.alloc();
-    let p = made(a)?;
-    let s = scope(&p, 0, &[Name(E)]);
-    // E
-    assert!(rt; says(a, &s, &[(1, E, 0, 0)], &[VARIABLE], 0));
-    // E<A>
-    assert!(rt; says(a, &s, &[(2, A, 0, 0), (1, E, 1, 0)], &[], 1));
-    // L<E>
-    assert!(rt; says(a, &s, &[(2, E, 0, 0), (1, L, 1, 0)], &[L, VARIABLE], 0));
-    // E[]
-    assert!(rt; says(a, &s, &[(1, E, 0, 1)], &[ARRAY, VARIABLE], 0));
+    assert_eq!(rt; first_wrong(rt.alloc(), 0, &[Name(E)], &PARAMETERS)?, None);
     Ok(())
 }
 
+static HIDDEN: [Case; 4] = [
+    // A
+    (&[(1, A, 0, 0)], &[202], 0),
+    // L
+    (&[(1, L, 0, 0)], &[201], 0),
+    // L<A>
+    (&[(2, A, 0, 0), (1, L, 1, 0)], &[], 1),
+    // M<A, L>
+    (
+        &[(2, A, 0, 0), (3, L, 0, 0), (1, M, 2, 0)],
+        &[M, 202, 201],
+        0,
+    ),
+];
+
 #[test]
 fn type_parameters_hide_types(rt: HostRuntime) -> Result<(), Fail> {
-    let a = rt.alloc();
-    let p = made(a)?;
-    let s = scope(&p, 0, &[Name(E), Name(L), Name(A), Name(L)]);
-    // A
-    assert!(rt; says(a, &s, &[(1, A, 0, 0)], &[202], 0));
-    // L
-    assert!(rt; says(a, &s, &[(1, L, 0, 0)], &[201], 0));
-    // L<A>
-    assert!(rt; says(a, &s, &[(2, A, 0, 0), (1, L, 1, 0)], &[], 1));
-    // M<A, L>
-    assert!(rt;
-        says(
-            a,
-            &s,
-            &[(2, A, 0, 0), (3, L, 0, 0), (1, M, 2, 0)],
-            &[M, 202, 201],
-            0
-        )
+    assert_eq!(rt;
+        first_wrong(
+            rt.alloc(),
+            0,
+            &[Name(E), Name(L), Name(A), Name(L)],
+            &HIDDEN
+        )?,
+        None
     );
     Ok(())
 }
 
+static IN_LIBRARY: [Case; 3] = [
+    // L<String>
+    (&[(2, STRING, 0, 0), (1, L, 1, 0)], &[L, STRING], 0),
+    // A
+    (&[(1, A, 0, 0)], &[], 1),
+    // E
+    (&[(1, E, 0, 0)], &[], 1),
+];
+
 #[test]
 fn a_library_file_sees_its_package_and_no_type_of_a_user(rt: HostRuntime) -> Result<(), Fail> {
-    let a = rt.alloc();
-    let p = made(a)?;
-    let s = scope(&p, 1, &[]);
-    // L<String>
-    assert!(rt; says(a, &s, &[(2, STRING, 0, 0), (1, L, 1, 0)], &[L, STRING], 0));
-    // A
-    assert!(rt; says(a, &s, &[(1, A, 0, 0)], &[], 1));
-    // E
-    assert!(rt; says(a, &s, &[(1, E, 0, 0)], &[], 1));
+    assert_eq!(rt; first_wrong(rt.alloc(), 1, &[], &IN_LIBRARY)?, None);
     Ok(())
 }
