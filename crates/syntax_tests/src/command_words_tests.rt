@@ -1,7 +1,7 @@
 //! Words that break a rule, words that just do not, and what the words of `generalize` ask for.
 
 use crate::samples::words;
-use command_words::{Reading, is_identifier, number, read_words};
+use command_words::{Generalize, Reading, is_identifier, number, read_words};
 use std::alloc::Global;
 use std::test::Fail;
 
@@ -59,21 +59,21 @@ fn the_first_rule_that_a_line_breaks(rt: HostRuntime) -> Result<(), Fail> {
     Ok(())
 }
 
+/// The own words of a request.
+fn generalize<'a>(alloc: Global, words: &'a [String]) -> Option<Generalize<'a>> {
+    match read_words(alloc, words) {
+        Ok(Reading::Asked(request)) => request.generalize(),
+        _ => None,
+    }
+}
+
 #[test]
 fn words_of_generalize_have_names(rt: HostRuntime) -> Result<(), Fail> {
-    let words = words(
-        rt.alloc(),
-        "generalize o p/A.java 12 7 B -- C.java p/A.java",
-    )?;
-    let reading = read_words(rt.alloc(), words.as_slice())?;
-    let Reading::Asked(request) = reading else {
-        return Err("no request")?;
-    };
-    let asked = request.generalize().ok_or("another command")?;
-    assert_eq!(rt; asked.out, "o");
-    assert_eq!(rt; asked.file, "p/A.java");
+    let line = "generalize o p/A.java 12 7 B -- C.java p/A.java";
+    let words = words(rt.alloc(), line)?;
+    let asked = generalize(rt.alloc(), words.as_slice()).ok_or("no such request")?;
+    assert_eq!(rt; (asked.out, asked.file, asked.ty), ("o", "p/A.java", "B"));
     assert_eq!(rt; (asked.line, asked.col), (12, 7));
-    assert_eq!(rt; asked.ty, "B");
     Ok(())
 }
 

@@ -4,17 +4,40 @@ use edit_writer::{Edit, Place, apply, offset_at, place_at};
 use java_tree::Items;
 use std::test::Fail;
 
+const TEXT: &[u8] = b"ab\r\nc\rd\n\ne";
+
+/// Offsets in `TEXT`, and their lines and columns.
+const PLACES: [(usize, u32, u32); 4] = [(0, 1, 1), (4, 2, 1), (6, 3, 1), (9, 5, 1)];
+
+/// Lines and columns of `TEXT`, and the offsets of the bytes there, if there are any.
+const OFFSETS: [(u32, u32, Option<usize>); 3] = [(5, 1, Some(9)), (1, 2, Some(1)), (6, 1, None)];
+
+/// The place of an offset in `TEXT`.
+fn place(offset: usize) -> Option<Place> {
+    if TEXT.len() < 100 && offset <= TEXT.len() {
+        Some(place_at(TEXT, offset))
+    } else {
+        None
+    }
+}
+
+/// The offset of a place in `TEXT`.
+fn offset(place: Place) -> Option<usize> {
+    if TEXT.len() < 100 {
+        offset_at(TEXT, place)
+    } else {
+        None
+    }
+}
+
 #[test]
-fn lines_end_at_feeds_and_returns(rt: HostRuntime) -> Result<(), Fail> {
-    let text = b"ab\r\nc\rd\n\ne";
-    assert_eq!(rt; place_at(text, 0), Place { line: 1, col: 1 });
-    assert_eq!(rt; place_at(text, 4), Place { line: 2, col: 1 });
-    assert_eq!(rt; place_at(text, 6), Place { line: 3, col: 1 });
-    assert_eq!(rt; place_at(text, 9), Place { line: 5, col: 1 });
-    assert_eq!(rt; offset_at(text, Place { line: 5, col: 1 }), Some(9));
-    assert_eq!(rt; offset_at(text, Place { line: 1, col: 2 }), Some(1));
-    assert_eq!(rt; offset_at(text, Place { line: 6, col: 1 }), None);
-    Ok(())
+fn lines_end_at_feeds_and_returns(rt: HostRuntime) {
+    for (at, line, col) in PLACES {
+        assert_eq!(rt; place(at), Some(Place { line, col }), "{at}");
+    }
+    for (line, col, at) in OFFSETS {
+        assert_eq!(rt; offset(Place { line, col }), at, "{line}:{col}");
+    }
 }
 
 #[test]

@@ -1059,7 +1059,12 @@ fn tree_at(
 }
 
 /// A tree written out, and what is said where tokens are left.
-fn written(alloc: Global, look: Look<'_>, tree: &Tree, is_all: bool) -> Result<String, SyntaxFault> {
+fn written(
+    alloc: Global,
+    look: Look<'_>,
+    tree: &Tree,
+    is_all: bool,
+) -> Result<String, SyntaxFault> {
     let mut out = Written::new(alloc);
     match tree {
         Tree::Expr(tree) => put_expr(&mut out, look, tree),
