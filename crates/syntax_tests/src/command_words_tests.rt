@@ -2,6 +2,7 @@
 
 use crate::samples::words;
 use command_words::{Generalize, Reading, is_identifier, number, read_words};
+use java_tree::NoMemory;
 use std::alloc::Global;
 use std::test::Fail;
 
@@ -42,10 +43,9 @@ const LINES: [(&str, u8); 29] = [
     ("generalize o B.java 1 5 A -- A.java", 8),
 ];
 
-/// The rule that a command line breaks, and 0 where it breaks none.
-fn broken(alloc: Global, line: &str) -> Result<u8, Fail> {
-    let words = words(alloc, line)?;
-    match read_words(alloc, words.as_slice())? {
+/// The rule that words break, and 0 where they break none.
+fn broken(alloc: Global, words: &[String]) -> Result<u8, NoMemory> {
+    match read_words(alloc, words)? {
         Reading::Usage(rule) => Ok(rule),
         Reading::Asked(_) => Ok(0),
     }
@@ -54,7 +54,9 @@ fn broken(alloc: Global, line: &str) -> Result<u8, Fail> {
 #[test]
 fn the_first_rule_that_a_line_breaks(rt: HostRuntime) -> Result<(), Fail> {
     for (line, rule) in LINES {
-        assert_eq!(rt; broken(rt.alloc(), line)?, rule, "{line}");
+        let words = words(rt.alloc(), line)?;
+        let found = broken(rt.alloc(), words.as_slice())?;
+        assert_eq!(rt; found, rule, "{line}");
     }
     Ok(())
 }

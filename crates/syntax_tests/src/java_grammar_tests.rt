@@ -34,13 +34,13 @@ const SORTS: [Sort; 21] = [
     Sort::End,
 ];
 
-/// The tokens of `TEXT` and the names in them. Where it has no tokens, there are none here.
-fn toks(alloc: Global, names: &mut Names) -> Result<Items<Tok>, NoMemory> {
-    if TEXT.len() > 1_000 || names.len() > 100 {
+/// The tokens of a short text and the names in them. Where it has no tokens, there are none here.
+fn toks(alloc: Global, text: &[u8], names: &mut Names) -> Result<Items<Tok>, NoMemory> {
+    if text.len() > 1_000 || names.len() > 100 {
         return Ok(Items::new(alloc));
     }
-    match lex(alloc, TEXT) {
-        Ok(tokens) if tokens.len() < 1_000 => toks_of(alloc, TEXT, tokens.as_slice(), names),
+    match lex(alloc, text) {
+        Ok(tokens) if tokens.len() < 1_000 => toks_of(alloc, text, tokens.as_slice(), names),
         _ => Ok(Items::new(alloc)),
     }
 }
@@ -48,7 +48,7 @@ fn toks(alloc: Global, names: &mut Names) -> Result<Items<Tok>, NoMemory> {
 #[test]
 fn a_text_has_these_tokens(rt: HostRuntime) -> Result<(), Fail> {
     let mut names = Names::new(rt.alloc())?;
-    let toks = toks(rt.alloc(), &mut names)?;
+    let toks = toks(rt.alloc(), TEXT, &mut names)?;
     for (i, sort) in SORTS.iter().enumerate() {
         assert_eq!(rt; sort_at(toks.as_slice(), i), *sort, "at {i}");
     }
@@ -61,7 +61,7 @@ const NAMED: [(usize, &str); 3] = [(2, "a"), (8, "b$"), (15, "a")];
 #[test]
 fn words_have_names(rt: HostRuntime) -> Result<(), Fail> {
     let mut names = Names::new(rt.alloc())?;
-    let toks = toks(rt.alloc(), &mut names)?;
+    let toks = toks(rt.alloc(), TEXT, &mut names)?;
     for (at, text) in NAMED {
         let name = Name(name_at(toks.as_slice(), at));
         assert_eq!(rt; names.find(text), Some(name), "at {at}");
@@ -73,7 +73,7 @@ fn words_have_names(rt: HostRuntime) -> Result<(), Fail> {
 #[test]
 fn tokens_have_places(rt: HostRuntime) -> Result<(), Fail> {
     let mut names = Names::new(rt.alloc())?;
-    let toks = toks(rt.alloc(), &mut names)?;
+    let toks = toks(rt.alloc(), TEXT, &mut names)?;
     let toks = toks.as_slice();
     assert_eq!(rt; to_at(toks, 3), from_at(toks, 4));
     assert_eq!(rt; span_of(toks, 2, 6), Span { from: 4, to: 12 });

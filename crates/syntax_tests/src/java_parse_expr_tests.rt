@@ -1023,6 +1023,78 @@ enum Tree {
     Stmt(Stmt),
 }
 
+/// The expression at the start, and the token behind it.
+fn expr_at(
+    alloc: Global,
+    text: &[u8],
+    tokens: &[Token],
+    start: Start,
+    names: &mut Names,
+) -> Result<(Tree, usize), SyntaxFault>
+    requires lexed { Lexes text.now tokens.now }
+    requires few { length tokens.now ≤ 10_000 }
+    requires room { length names.old ≤ 100 }
+    requires numbers { start.first ≤ 100 }
+{
+    let Start { at, depth, first } = start;
+    let (tree, next) = parse_expr(alloc, text, tokens, at, depth, first, names)?;
+    Ok((Tree::Expr(tree), next))
+}
+
+/// The initialiser there.
+fn init_at(
+    alloc: Global,
+    text: &[u8],
+    tokens: &[Token],
+    start: Start,
+    names: &mut Names,
+) -> Result<(Tree, usize), SyntaxFault>
+    requires lexed { Lexes text.now tokens.now }
+    requires few { length tokens.now ≤ 10_000 }
+    requires room { length names.old ≤ 100 }
+    requires numbers { start.first ≤ 100 }
+{
+    let Start { at, depth, first } = start;
+    let (tree, next) = parse_init(alloc, text, tokens, at, depth, first, names)?;
+    Ok((Tree::Expr(tree), next))
+}
+
+/// The type there.
+fn type_at(
+    alloc: Global,
+    text: &[u8],
+    tokens: &[Token],
+    start: Start,
+    names: &mut Names,
+) -> Result<(Tree, usize), SyntaxFault>
+    requires lexed { Lexes text.now tokens.now }
+    requires few { length tokens.now ≤ 10_000 }
+    requires room { length names.old ≤ 100 }
+    requires numbers { start.first ≤ 100 }
+{
+    let Start { at, depth, first } = start;
+    let (tree, next) = parse_type(alloc, text, tokens, at, depth, first, names)?;
+    Ok((Tree::Type(tree), next))
+}
+
+/// The statement there.
+fn stmt_at(
+    alloc: Global,
+    text: &[u8],
+    tokens: &[Token],
+    start: Start,
+    names: &mut Names,
+) -> Result<(Tree, usize), SyntaxFault>
+    requires lexed { Lexes text.now tokens.now }
+    requires few { length tokens.now ≤ 10_000 }
+    requires room { length names.old ≤ 100 }
+    requires numbers { start.first ≤ 100 }
+{
+    let Start { at, depth, first } = start;
+    let (tree, next) = parse_stmt(alloc, text, tokens, at, depth, first, names)?;
+    Ok((Tree::Stmt(tree), next))
+}
+
 /// The tree that a call reads, and the token behind it.
 fn tree_at(
     alloc: Global,
@@ -1037,24 +1109,11 @@ fn tree_at(
     requires room { length names.old ≤ 100 }
     requires numbers { start.first ≤ 100 }
 {
-    let Start { at, depth, first } = start;
     match call {
-        Call::Expr => {
-            let (tree, next) = parse_expr(alloc, text, tokens, at, depth, first, names)?;
-            Ok((Tree::Expr(tree), next))
-        }
-        Call::Init => {
-            let (tree, next) = parse_init(alloc, text, tokens, at, depth, first, names)?;
-            Ok((Tree::Expr(tree), next))
-        }
-        Call::Type => {
-            let (tree, next) = parse_type(alloc, text, tokens, at, depth, first, names)?;
-            Ok((Tree::Type(tree), next))
-        }
-        Call::Stmt => {
-            let (tree, next) = parse_stmt(alloc, text, tokens, at, depth, first, names)?;
-            Ok((Tree::Stmt(tree), next))
-        }
+        Call::Expr => expr_at(alloc, text, tokens, start, names),
+        Call::Init => init_at(alloc, text, tokens, start, names),
+        Call::Type => type_at(alloc, text, tokens, start, names),
+        Call::Stmt => stmt_at(alloc, text, tokens, start, names),
     }
 }
 
