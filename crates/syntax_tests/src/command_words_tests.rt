@@ -1,7 +1,8 @@
 //! Words that break a rule, words that just do not, and what the words of `generalize` ask for.
 
 use crate::samples::words;
-use command_words::{Reading, is_identifier, number, read_words};
+use command_words::{Generalize, Reading, is_identifier, number, read_words};
+use java_tree::NoMemory;
 use std::alloc::Global;
 use std::test::Fail;
 
@@ -42,10 +43,9 @@ const LINES: [(&str, u8); 29] = [
     ("generalize o B.java 1 5 A -- A.java", 8),
 ];
 
-/// The rule that a command line breaks, and 0 where it breaks none.
-fn broken(alloc: Global, line: &str) -> Result<u8, Fail> {
-    let words = words(alloc, line)?;
-    match read_words(alloc, words.as_slice())? {
+/// The rule that words break, and 0 where they break none.
+fn broken(alloc: Global, words: &[String]) -> Result<u8, NoMemory> {
+    match read_words(alloc, words)? {
         Reading::Usage(rule) => Ok(rule),
         Reading::Asked(_) => Ok(0),
     }
@@ -54,26 +54,28 @@ fn broken(alloc: Global, line: &str) -> Result<u8, Fail> {
 #[test]
 fn the_first_rule_that_a_line_breaks(rt: HostRuntime) -> Result<(), Fail> {
     for (line, rule) in LINES {
-        assert_eq!(rt; broken(rt.alloc(), line)?, rule, "{line}");
+        let words = words(rt.alloc(), line)?;
+        let found = broken(rt.alloc(), words.as_slice())?;
+        assert_eq!(rt; found, rule, "{line}");
     }
     Ok(())
 }
 
+/// The own words of a request.
+fn generalize<'a>(alloc: Global, words: &'a [String]) -> Option<Generalize<'a>> {
+    match read_words(alloc, words) {
+        Ok(Reading::Asked(request)) => request.generalize(),
+        _ => None,
+    }
+}
+
 #[test]
 fn words_of_generalize_have_names(rt: HostRuntime) -> Result<(), Fail> {
-    let words = words(
-        rt.alloc(),
-        "generalize o p/A.java 12 7 B -- C.java p/A.java",
-    )?;
-    let reading = read_words(rt.alloc(), words.as_slice())?;
-    let Reading::Asked(request) = reading else {
-        return Err("no request")?;
-    };
-    let asked = request.generalize().ok_or("another command")?;
-    assert_eq!(rt; asked.out, "o");
-    assert_eq!(rt; asked.file, "p/A.java");
+    let line = "generalize o p/A.java 12 7 B -- C.java p/A.java";
+    let words = words(rt.alloc(), line)?;
+    let asked = generalize(rt.alloc(), words.as_slice()).ok_or("no such request")?;
+    assert_eq!(rt; (asked.out, asked.file, asked.ty), ("o", "p/A.java", "B"));
     assert_eq!(rt; (asked.line, asked.col), (12, 7));
-    assert_eq!(rt; asked.ty, "B");
     Ok(())
 }
 

@@ -1,11 +1,14 @@
 //! Texts with their trees, as chapters 4, 14, 15 and 18 of the JLS have them.
 
+ghost use Rattle.java_lexer.specs.Lexing.{Lexes};
+ghost use Rattle.std.specs.Prelude.{◌≤◌, length};
+
 use crate::written::{Written, put_dims, put_name};
 use java_lexer::lex;
 use java_parse_expr::{SyntaxFault, parse_expr, parse_init, parse_stmt, parse_type};
 use java_tree::Names;
 use java_tree::tree::{
-    BinOp, Catch, Expr, ExprForm, Group, Head, Name, Node, Param, Primitive, Stmt, StmtForm,
+    BinOp, Catch, Expr, ExprForm, Group, Head, Node, Param, Primitive, Stmt, StmtForm, Token,
     TypeExpr, UnOp, Var,
 };
 use std::alloc::{AllocError, Global};
@@ -1012,7 +1015,126 @@ const WHOLE: Start = Start {
     first: 0,
 };
 
-/// The tree of a text, written out, and what is said where tokens are left.
+/// What one of the calls reads.
+#[derive(Drop)]
+enum Tree {
+    Expr(Expr),
+    Type(TypeExpr),
+    Stmt(Stmt),
+}
+
+/// The expression at the start, and the token behind it.
+fn expr_at(
+    alloc: Global,
+    text: &[u8],
+    tokens: &[Token],
+    start: Start,
+    names: &mut Names,
+) -> Result<(Tree, usize), SyntaxFault>
+    requires lexed { Lexes text.now tokens.now }
+    requires few { length tokens.now ≤ 10_000 }
+    requires room { length names.old ≤ 100 }
+    requires numbers { start.first ≤ 100 }
+{
+    let Start { at, depth, first } = start;
+    let (tree, next) = parse_expr(alloc, text, tokens, at, depth, first, names)?;
+    Ok((Tree::Expr(tree), next))
+}
+
+/// The initialiser there.
+fn init_at(
+    alloc: Global,
+    text: &[u8],
+    tokens: &[Token],
+    start: Start,
+    names: &mut Names,
+) -> Result<(Tree, usize), SyntaxFault>
+    requires lexed { Lexes text.now tokens.now }
+    requires few { length tokens.now ≤ 10_000 }
+    requires room { length names.old ≤ 100 }
+    requires numbers { start.first ≤ 100 }
+{
+    let Start { at, depth, first } = start;
+    let (tree, next) = parse_init(alloc, text, tokens, at, depth, first, names)?;
+    Ok((Tree::Expr(tree), next))
+}
+
+/// The type there.
+fn type_at(
+    alloc: Global,
+    text: &[u8],
+    tokens: &[Token],
+    start: Start,
+    names: &mut Names,
+) -> Result<(Tree, usize), SyntaxFault>
+    requires lexed { Lexes text.now tokens.now }
+    requires few { length tokens.now ≤ 10_000 }
+    requires room { length names.old ≤ 100 }
+    requires numbers { start.first ≤ 100 }
+{
+    let Start { at, depth, first } = start;
+    let (tree, next) = parse_type(alloc, text, tokens, at, depth, first, names)?;
+    Ok((Tree::Type(tree), next))
+}
+
+/// The statement there.
+fn stmt_at(
+    alloc: Global,
+    text: &[u8],
+    tokens: &[Token],
+    start: Start,
+    names: &mut Names,
+) -> Result<(Tree, usize), SyntaxFault>
+    requires lexed { Lexes text.now tokens.now }
+    requires few { length tokens.now ≤ 10_000 }
+    requires room { length names.old ≤ 100 }
+    requires numbers { start.first ≤ 100 }
+{
+    let Start { at, depth, first } = start;
+    let (tree, next) = parse_stmt(alloc, text, tokens, at, depth, first, names)?;
+    Ok((Tree::Stmt(tree), next))
+}
+
+/// The tree that a call reads, and the token behind it.
+fn tree_at(
+    alloc: Global,
+    call: Call,
+    text: &[u8],
+    tokens: &[Token],
+    start: Start,
+    names: &mut Names,
+) -> Result<(Tree, usize), SyntaxFault>
+    requires lexed { Lexes text.now tokens.now }
+    requires few { length tokens.now ≤ 10_000 }
+    requires room { length names.old ≤ 100 }
+    requires numbers { start.first ≤ 100 }
+{
+    match call {
+        Call::Expr => expr_at(alloc, text, tokens, start, names),
+        Call::Init => init_at(alloc, text, tokens, start, names),
+        Call::Type => type_at(alloc, text, tokens, start, names),
+        Call::Stmt => stmt_at(alloc, text, tokens, start, names),
+    }
+}
+
+/// A tree written out, and what is said where tokens are left.
+fn written(
+    alloc: Global,
+    look: Look<'_>,
+    tree: &Tree,
+    is_all: bool,
+) -> Result<String, SyntaxFault> {
+    let mut out = Written::new(alloc);
+    match tree {
+        Tree::Expr(tree) => put_expr(&mut out, look, tree),
+        Tree::Type(tree) => put_type(&mut out, look, tree),
+        Tree::Stmt(tree) => put_stmt(&mut out, look, tree),
+    }
+    out.put(if is_all { "" } else { " and more" });
+    out.text().ok_or(SyntaxFault::NoMemory)
+}
+
+/// The tree of a text, written out.
 fn read(
     alloc: Global,
     call: Call,
@@ -1020,74 +1142,29 @@ fn read(
     start: Start,
     places: bool,
 ) -> Result<String, SyntaxFault> {
-    let Start { at, depth, first } = start;
-    let text = text.as_bytes();
     let mut names = Names::new(alloc)?;
-    if text.len() > 10_000 || names.len() > 100 || first > 100 {
+    if text.len() > 10_000 || names.len() > 100 || start.first > 100 {
         return Err(SyntaxFault::NoMemory);
     }
-    let Ok(tokens) = lex(alloc, text) else {
+    let Ok(tokens) = lex(alloc, text.as_bytes()) else {
         return Err(SyntaxFault::NoMemory);
     };
-    let tokens = tokens.as_slice();
     if tokens.len() > 10_000 {
         return Err(SyntaxFault::NoMemory);
     }
-    let mut out = Written::new(alloc);
-    let next = match call {
-        Call::Expr => {
-            let (tree, next) = parse_expr(alloc, text, tokens, at, depth, first, &mut names)?;
-            put_expr(
-                &mut out,
-                Look {
-                    names: &names,
-                    places,
-                },
-                &tree,
-            );
-            next
-        }
-        Call::Init => {
-            let (tree, next) = parse_init(alloc, text, tokens, at, depth, first, &mut names)?;
-            put_expr(
-                &mut out,
-                Look {
-                    names: &names,
-                    places,
-                },
-                &tree,
-            );
-            next
-        }
-        Call::Type => {
-            let (tree, next) = parse_type(alloc, text, tokens, at, depth, first, &mut names)?;
-            put_type(
-                &mut out,
-                Look {
-                    names: &names,
-                    places,
-                },
-                &tree,
-            );
-            next
-        }
-        Call::Stmt => {
-            let (tree, next) = parse_stmt(alloc, text, tokens, at, depth, first, &mut names)?;
-            put_stmt(
-                &mut out,
-                Look {
-                    names: &names,
-                    places,
-                },
-                &tree,
-            );
-            next
-        }
+    let (tree, next) = tree_at(
+        alloc,
+        call,
+        text.as_bytes(),
+        tokens.as_slice(),
+        start,
+        &mut names,
+    )?;
+    let look = Look {
+        names: &names,
+        places,
     };
-    if next != tokens.len() {
-        out.put(" and more");
-    }
-    out.text().ok_or(SyntaxFault::NoMemory)
+    written(alloc, look, &tree, next == tokens.len())
 }
 
 /// A text with another before and behind it so many times.

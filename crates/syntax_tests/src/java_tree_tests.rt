@@ -2,21 +2,45 @@
 
 use crate::samples::unit_of;
 use java_tree::tree::{Member, Name, Node};
-use java_tree::{BUILT_IN_TYPES, Item, Names, child};
+use java_tree::{BUILT_IN_TYPES, Item, Names, NoMemory, child};
 use std::test::Fail;
+
+/// Texts, and their numbers in a new table.
+const FOUND: [(&str, Option<Name>); 3] = [
+    ("Object", Some(Name(0))),
+    ("String", Some(Name(1))),
+    ("total", None),
+];
+
+#[test]
+fn the_built_in_texts_have_the_first_numbers(rt: HostRuntime) -> Result<(), Fail> {
+    let names = Names::new(rt.alloc())?;
+    assert_eq!(rt; names.len(), BUILT_IN_TYPES as usize);
+    for (text, number) in FOUND {
+        assert_eq!(rt; names.find(text), number, "{text}");
+    }
+    Ok(())
+}
+
+/// The number of a text in a small table, if it has that text there.
+fn intern(names: &mut Names, text: &str) -> Result<Option<Name>, NoMemory> {
+    if names.len() > 100 {
+        return Ok(None);
+    }
+    let name = names.intern(text)?;
+    Ok(if names.text(name) == text {
+        Some(name)
+    } else {
+        None
+    })
+}
 
 #[test]
 fn a_new_text_comes_after_the_built_in_ones(rt: HostRuntime) -> Result<(), Fail> {
     let mut names = Names::new(rt.alloc())?;
-    assert_eq!(rt; names.len(), BUILT_IN_TYPES as usize);
-    assert_eq!(rt; names.find("Object"), Some(Name(0)));
-    assert_eq!(rt; names.find("String"), Some(Name(1)));
-    assert_eq!(rt; names.find("total"), None);
-    let total = names.intern("total")?;
-    assert_eq!(rt; total, Name(16));
-    assert_eq!(rt; names.intern("total")?, Name(16));
-    assert_eq!(rt; names.intern("Object")?, Name(0));
-    assert_eq!(rt; names.text(total), "total");
+    for (text, number) in [("total", 16), ("total", 16), ("Object", 0)] {
+        assert_eq!(rt; intern(&mut names, text)?, Some(Name(number)), "{text}");
+    }
     Ok(())
 }
 

@@ -1,79 +1,114 @@
 //! Files and a sink in memory, of which chosen calls fail.
 
 use crate::samples::files_of;
+use java_tree::NoMemory;
+use std::alloc::Global;
 use std::test::Fail;
-use tool_files::{FileCounts, FileFault, Files, MemSink, Sink, SinkFailed, WriteFailed};
+use tool_files::{FileCounts, FileFault, Files, MemFiles, MemSink, Sink, SinkFailed, WriteFailed};
 
-/// A file with its bytes.
-const A: (&str, &[u8]) = ("A.java", b"class A {}");
+/// A file with its bytes, in a store whose third call fails.
+fn one_file(alloc: Global) -> Result<MemFiles, NoMemory> {
+    files_of(alloc, &[("A.java", b"class A {}")], vec![in alloc; 3]?)
+}
+
+/// Reads one after the other: the name, the most bytes, the answer, and what has been read then.
+const READS: [(&str, usize, Result<(), FileFault>, &[u8]); 4] = [
+    ("A.java", 5, Ok(()), b">class"),
+    ("a.java", 5, Err(FileFault::Missing), b">class"),
+    ("A.java", 5, Err(FileFault::Failed), b">class"),
+    ("A.java", 11, Ok(()), b">classclass A {}"),
+];
 
 #[test]
 fn reads(rt: HostRuntime) -> Result<(), Fail> {
-    let alloc = rt.alloc();
-    let mut files = files_of(alloc, &[A], vec![in alloc; 3]?)?;
-    let mut into = vec![in alloc; b'>']?;
-    assert_eq!(rt; files.read("A.java", 5, &mut into), Ok(()));
-    assert_eq!(rt; files.read("a.java", 5, &mut into), Err(FileFault::Missing));
-    assert_eq!(rt; files.read("A.java", 5, &mut into), Err(FileFault::Failed));
-    assert_eq!(rt; into.as_slice(), b">class".as_slice());
-    assert_eq!(rt; files.read("A.java", 11, &mut into), Ok(()));
-    assert_eq!(rt; into.as_slice(), b">classclass A {}".as_slice());
-    assert_eq!(rt; files.calls(), 4);
+    let mut files = one_file(rt.alloc())?;
+    let mut into = vec![in rt.alloc(); b'>']?;
+    for (name, most, answer, bytes) in READS {
+        let found = files.read(name, most, &mut into);
+        assert!(rt;
+            found == answer && into.as_slice() == bytes,
+            "{name} {most}"
+        );
+    }
     let counts = FileCounts {
         misses: 1,
         read_faults: 1,
         write_faults: 0,
     };
-    assert_eq!(rt; files.counts(), counts);
+    assert_eq!(rt; (files.calls(), files.counts()), (4, counts));
     Ok(())
 }
+
+/// Writes one after the other, behind a first one: the name, the bytes, the answer, what the file has then, and why.
+const WRITES: [(&str, &[u8], Result<(), WriteFailed>, Option<&[u8]>, &str); 5] = [
+    (
+        "B.java",
+        b"class B {}",
+        Ok(()),
+        Some(b"class B {}"),
+        "there is room",
+    ),
+    (
+        "A.java",
+        b"other",
+        Err(WriteFailed),
+        Some(b"class A {}"),
+        "the third call",
+    ),
+    ("C.java", b"", Err(WriteFailed), None, "no room for a name"),
+    (
+        "B.java",
+        b"class B { }",
+        Ok(()),
+        Some(b"class B { }"),
+        "there is room",
+    ),
+    (
+        "A.java",
+        b"",
+        Err(WriteFailed),
+        Some(b"class A {}"),
+        "five bytes are left",
+    ),
+];
 
 #[test]
 fn writes(rt: HostRuntime) -> Result<(), Fail> {
-    let alloc = rt.alloc();
-    let mut files = files_of(alloc, &[A], vec![in alloc; 3]?)?;
-    assert_eq!(rt;
-        files.write("A.java", b""),
-        Err(WriteFailed),
-        "no room for the name's bytes"
-    );
+    let mut files = one_file(rt.alloc())?;
+    let found = files.write("A.java", b"");
+    assert_eq!(rt; found, Err(WriteFailed), "no room for the name's bytes");
     files.reserve(1, 38)?;
-    assert_eq!(rt; files.write("B.java", b"class B {}"), Ok(()));
+    for (name, bytes, answer, held, why) in WRITES {
+        let found = files.write(name, bytes);
+        assert!(rt;
+            found == answer && files.bytes(name) == held,
+            "{name}: {why}"
+        );
+    }
+    let other = files.bytes("B.java");
     assert_eq!(rt;
-        files.write("A.java", b"other"),
-        Err(WriteFailed),
-        "the third call"
+        (other, files.counts().write_faults),
+        (Some(b"class B { }".as_slice()), 4)
     );
-    assert_eq!(rt; files.bytes("A.java"), Some(b"class A {}".as_slice()));
-    assert_eq!(rt;
-        files.write("C.java", b""),
-        Err(WriteFailed),
-        "no room for a name"
-    );
-    assert_eq!(rt; files.bytes("C.java"), None);
-    assert_eq!(rt; files.write("B.java", b"class B { }"), Ok(()));
-    assert_eq!(rt;
-        files.write("A.java", b""),
-        Err(WriteFailed),
-        "five bytes are left"
-    );
-    assert_eq!(rt; files.bytes("A.java"), Some(b"class A {}".as_slice()));
-    assert_eq!(rt; files.bytes("B.java"), Some(b"class B { }".as_slice()));
-    assert_eq!(rt; files.counts().write_faults, 4);
     Ok(())
 }
 
+/// Puts one after the other: the bytes, the answer, what is written then, and why.
+const PUTS: [(&[u8], Result<(), SinkFailed>, &[u8], &str); 4] = [
+    (b"done", Ok(()), b"done", "there is room"),
+    (b"!", Err(SinkFailed), b"done", "the second call"),
+    (b" 12", Err(SinkFailed), b"done", "two bytes are left"),
+    (b" 1", Ok(()), b"done 1", "there is room"),
+];
+
 #[test]
 fn puts(rt: HostRuntime) -> Result<(), Fail> {
-    let alloc = rt.alloc();
-    let mut sink = MemSink::new(vec![in alloc; 2]?);
+    let mut sink = MemSink::new(vec![in rt.alloc(); 2]?);
     sink.reserve(6)?;
-    assert_eq!(rt; sink.put(b"done"), Ok(()));
-    assert_eq!(rt; sink.put(b"!"), Err(SinkFailed), "the second call");
-    assert_eq!(rt; sink.put(b" 12"), Err(SinkFailed), "two bytes are left");
-    assert_eq!(rt; sink.put(b" 1"), Ok(()));
-    assert_eq!(rt; sink.written(), b"done 1".as_slice());
-    assert_eq!(rt; sink.calls(), 4);
-    assert_eq!(rt; sink.faults(), 2);
+    for (bytes, answer, written, why) in PUTS {
+        let found = sink.put(bytes);
+        assert!(rt; found == answer && sink.written() == written, "{why}");
+    }
+    assert_eq!(rt; (sink.calls(), sink.faults()), (4, 2));
     Ok(())
 }

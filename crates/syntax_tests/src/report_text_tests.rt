@@ -1,7 +1,7 @@
 //! The lines of reports.
 
 use edit_writer::{Edit, Place};
-use java_tree::Items;
+use java_tree::{Items, NoMemory};
 use report_text::{edit_report, missing, read_fault, refused_at, rule_name, usage, write_fault};
 use std::test::Fail;
 
@@ -19,21 +19,29 @@ fn an_edit_has_its_line(rt: HostRuntime) -> Result<(), Fail> {
     Ok(())
 }
 
+/// Whether a line was made and is this text.
+fn is_line(line: Result<String, NoMemory>, text: &str) -> bool {
+    match line {
+        Ok(line) => line.as_str() == text,
+        Err(_) => false,
+    }
+}
+
 #[test]
-fn each_cause_has_its_line(rt: HostRuntime) -> Result<(), Fail> {
-    let alloc = rt.alloc();
-    let refused = refused_at(alloc, "MEMBER", "A.java", Place { line: 6, col: 5 })?;
-    assert_eq!(rt; refused.as_str(), "refused MEMBER A.java:6:5\n");
-    assert_eq!(rt; usage(alloc, 4)?.as_str(), "usage U4\n");
-    assert_eq!(rt; rule_name(alloc, "DR", 19)?.as_str(), "DR19");
-    assert_eq!(rt; missing(alloc, "B.java")?.as_str(), "missing B.java\n");
-    assert_eq!(rt;
-        read_fault(alloc, "A.java")?.as_str(),
-        "read fault A.java\n"
-    );
-    assert_eq!(rt;
-        write_fault(alloc, "out/A.java")?.as_str(),
-        "write fault out/A.java\n"
-    );
-    Ok(())
+fn each_refusal_has_its_line(rt: HostRuntime) {
+    let place = Place { line: 6, col: 5 };
+    let refused = refused_at(rt.alloc(), "MEMBER", "A.java", place);
+    assert!(rt; is_line(refused, "refused MEMBER A.java:6:5\n"));
+    assert!(rt; is_line(usage(rt.alloc(), 4), "usage U4\n"));
+    assert!(rt; is_line(rule_name(rt.alloc(), "DR", 19), "DR19"));
+}
+
+#[test]
+fn each_fault_has_its_line(rt: HostRuntime) {
+    let absent = missing(rt.alloc(), "B.java");
+    assert!(rt; is_line(absent, "missing B.java\n"));
+    let unread = read_fault(rt.alloc(), "A.java");
+    assert!(rt; is_line(unread, "read fault A.java\n"));
+    let unwritten = write_fault(rt.alloc(), "out/A.java");
+    assert!(rt; is_line(unwritten, "write fault out/A.java\n"));
 }

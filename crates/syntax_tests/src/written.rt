@@ -6,6 +6,7 @@ use std::alloc::Global;
 use std::fmt::Write;
 
 /// A text that grows, and whether all that was put into it is there. So what puts into it has no error of its own, and is quick to prove.
+#[derive(Drop)]
 pub struct Written {
     text: String,
     is_whole: bool,
