@@ -6,7 +6,7 @@ use std::alloc::Global;
 use std::test::Fail;
 use tool_files::{MemFiles, MemSink};
 
-const FIRST: &[u8] = b"class A { void m() { System.out.println(\"a\"); } }
+const FIRST: &str = "class A { void m() { System.out.println(\"a\"); } }
 class B extends A { void m() { System.out.println(\"b\"); } }
 class Main {
   public static void main(String[] args) {
@@ -16,7 +16,7 @@ class Main {
 }
 ";
 
-const GENERALIZED: &[u8] = b"class A { void m() { System.out.println(\"a\"); } }
+const GENERALIZED: &str = "class A { void m() { System.out.println(\"a\"); } }
 class B extends A { void m() { System.out.println(\"b\"); } }
 class Main {
   public static void main(String[] args) {
@@ -26,15 +26,27 @@ class Main {
 }
 ";
 
-/// `A.java` with this text, room for one more file, and calls that fail.
-fn files(alloc: Global, text: &[u8], fail: &[u32]) -> Result<MemFiles, NoMemory> {
-    let name = String::from_str(alloc, "A.java")?;
-    let bytes = Vec::from_slice(alloc, text)?;
-    let mut list = Vec::new(alloc);
-    list.push((name, bytes))?;
+/// A file's name and bytes.
+fn file(alloc: Global, name: &str, text: &str) -> Result<(String, Vec<u8>), NoMemory> {
+    let name = String::from_str(alloc, name)?;
+    let bytes = Vec::from_slice(alloc, text.as_bytes())?;
+    Ok((name, bytes))
+}
+
+/// A store of files with room for one more, and calls that fail.
+fn store(alloc: Global, list: Vec<(String, Vec<u8>)>, fail: &[u32]) -> Result<MemFiles, NoMemory> {
     let mut files = MemFiles::new(alloc, list, Vec::from_slice(alloc, fail)?)?;
     files.reserve(1, 4096)?;
     Ok(files)
+}
+
+/// Files of these names and texts, with room for one more, and calls that fail.
+fn files(alloc: Global, texts: &[(&str, &str)], fail: &[u32]) -> Result<MemFiles, NoMemory> {
+    let mut list = Vec::new(alloc);
+    for (name, text) in texts {
+        list.push(file(alloc, name, text)?)?;
+    }
+    store(alloc, list, fail)
 }
 
 /// A sink with room for a report, and puts that fail.
@@ -46,102 +58,164 @@ fn sink(alloc: Global, fail: &[u32]) -> Result<MemSink, NoMemory> {
 
 fn words(alloc: Global, line: &str) -> Result<Vec<String>, NoMemory> {
     let mut words = Vec::new(alloc);
-    for word in line.split(' ') {
+    for word in line.split_whitespace() {
         words.push(String::from_str(alloc, word)?)?;
     }
     Ok(words)
 }
 
+/// What the call answers on the words of a line, and what it puts.
+fn answer(
+    alloc: Global,
+    files: &mut MemFiles,
+    fail: &[u32],
+    line: &str,
+) -> Result<(Status, MemSink), NoMemory> {
+    let words = words(alloc, line)?;
+    let mut out = sink(alloc, fail)?;
+    let status = refactor(alloc, words.as_slice(), files, &mut out);
+    Ok((status, out))
+}
+
+/// Whether the call answers so on the words of a line, and puts this report.
+fn answers(
+    alloc: Global,
+    files: &mut MemFiles,
+    line: &str,
+    status: Status,
+    report: &str,
+) -> Result<bool, NoMemory> {
+    let (found, out) = answer(alloc, files, &[], line)?;
+    Ok(found == status && out.written() == report.as_bytes())
+}
+
+/// Whether a file has this text, or is absent where there is none.
+fn has(files: &MemFiles, name: &str, text: Option<&str>) -> bool {
+    match (files.bytes(name), text) {
+        (Some(bytes), Some(text)) => bytes == text.as_bytes(),
+        (None, None) => true,
+        _ => false,
+    }
+}
+
 const REQUEST: &str = "generalize out A.java 5 5 A -- A.java";
+
+/// What becomes of the first request: the calls on files and the puts that fail, the answer, the report, and the text that is written.
+type Course = (
+    &'static [u32],
+    &'static [u32],
+    Status,
+    &'static str,
+    Option<&'static str>,
+);
+
+/// Whether the first request has this course, and its file stays.
+fn runs_so(alloc: Global, course: Course) -> Result<bool, NoMemory> {
+    let (fail, fail_puts, status, report, made) = course;
+    let mut files = files(alloc, &[("A.java", FIRST)], fail)?;
+    let (found, out) = answer(alloc, &mut files, fail_puts, REQUEST)?;
+    let is_told = found == status && out.written() == report.as_bytes();
+    Ok(is_told && has(&files, "A.java", Some(FIRST)) && has(&files, "out/A.java", made))
+}
 
 #[test]
 fn generalizes_the_local_of_the_first_example(rt: HostRuntime) -> Result<(), Fail> {
-    let alloc = rt.alloc();
-    let mut files = files(alloc, FIRST, &[])?;
-    let mut out = sink(alloc, &[])?;
-    let words = words(alloc, REQUEST)?;
-    assert_eq!(rt;
-        refactor(alloc, words.as_slice(), &mut files, &mut out),
-        Status::Done
-    );
-    assert_eq!(rt;
-        out.written(),
-        b"edit A.java 170 171 1 A\ndone 1 edits\n".as_slice()
-    );
-    assert_eq!(rt; files.bytes("A.java"), Some(FIRST));
-    assert_eq!(rt; files.bytes("out/A.java"), Some(GENERALIZED));
+    let report = "edit A.java 170 171 1 A\ndone 1 edits\n";
+    let course: Course = (&[], &[], Status::Done, report, Some(GENERALIZED));
+    assert!(rt; runs_so(rt.alloc(), course)?);
     Ok(())
 }
+
+/// The courses of the first request where a call fails.
+const FAILED: [Course; 3] = [
+    (&[1], &[], Status::ReadFault, "read fault A.java\n", None),
+    (
+        &[2],
+        &[],
+        Status::WriteFault,
+        "write fault out/A.java\n",
+        None,
+    ),
+    (&[], &[1], Status::OutFault, "", Some(GENERALIZED)),
+];
 
 #[test]
 fn each_failing_call_has_its_answer(rt: HostRuntime) -> Result<(), Fail> {
-    let alloc = rt.alloc();
-    let words = words(alloc, REQUEST)?;
-    let mut unread = files(alloc, FIRST, &[1])?;
-    let mut out = sink(alloc, &[])?;
-    assert_eq!(rt;
-        refactor(alloc, words.as_slice(), &mut unread, &mut out),
-        Status::ReadFault
-    );
-    assert_eq!(rt; out.written(), b"read fault A.java\n".as_slice());
-    assert_eq!(rt; unread.bytes("out/A.java"), None);
-    let mut unwritten = files(alloc, FIRST, &[2])?;
-    let mut out = sink(alloc, &[])?;
-    assert_eq!(rt;
-        refactor(alloc, words.as_slice(), &mut unwritten, &mut out),
-        Status::WriteFault
-    );
-    assert_eq!(rt; out.written(), b"write fault out/A.java\n".as_slice());
-    assert_eq!(rt; unwritten.bytes("out/A.java"), None);
-    let mut unput = files(alloc, FIRST, &[])?;
-    let mut out = sink(alloc, &[1])?;
-    assert_eq!(rt;
-        refactor(alloc, words.as_slice(), &mut unput, &mut out),
-        Status::OutFault
-    );
-    assert_eq!(rt; out.written(), b"".as_slice());
-    assert_eq!(rt; unput.bytes("out/A.java"), Some(GENERALIZED));
+    for course in FAILED {
+        assert!(rt; runs_so(rt.alloc(), course)?, "{}", course.3);
+    }
     Ok(())
 }
 
-/// Whether these words are refused on this text with this report, and nothing is written.
-fn refuses(alloc: Global, text: &[u8], line: &str, report: &[u8]) -> Result<bool, NoMemory> {
-    let mut files = files(alloc, text, &[])?;
-    let mut out = sink(alloc, &[])?;
-    let words = words(alloc, line)?;
-    let status = refactor(alloc, words.as_slice(), &mut files, &mut out);
-    let is_unwritten = files.bytes("out/A.java").is_none();
-    Ok(status == Status::Refused && is_unwritten && out.written() == report)
+/// Whether these words are refused on these files with this report, and nothing is written.
+fn refuses_on(
+    alloc: Global,
+    texts: &[(&str, &str)],
+    line: &str,
+    report: &str,
+) -> Result<bool, NoMemory> {
+    let mut files = files(alloc, texts, &[])?;
+    let is_refused = answers(alloc, &mut files, line, Status::Refused, report)?;
+    Ok(is_refused && has(&files, "out/A.java", None))
+}
+
+/// Whether they are on this text.
+fn refuses(alloc: Global, text: &str, line: &str, report: &str) -> Result<bool, NoMemory> {
+    refuses_on(alloc, &[("A.java", text)], line, report)
 }
 
 /// `A` has no method, so a call on a local of type A chooses none.
-const MEMBER: &[u8] = b"class A { }
+const MEMBER: &str = "class A { }
 class B extends A { void m() { System.out.println(\"b\"); } }
 class Main { public static void main(String[] args) { B x = new B(); x.m(); } }
 ";
 
+/// Texts, words and the report of their refusal.
+const REFUSED: [(&str, &str, &str); 8] = [
+    (FIRST, "check -- A.java", "refused N1 -\n"),
+    ("class A { int n; }\n", REQUEST, "refused N2 -\n"),
+    (
+        FIRST,
+        "generalize out A.java 5 5 C -- A.java",
+        "refused N2 -\n",
+    ),
+    (
+        FIRST,
+        "generalize out A.java 5 6 A -- A.java",
+        "refused V1 -\n",
+    ),
+    (
+        FIRST,
+        "generalize out A.java 4294967301 5 A -- A.java",
+        "refused V1 -\n",
+    ),
+    (
+        FIRST,
+        "generalize out A.java 5 5 B -- A.java",
+        "refused V3 A.java:5:5\n",
+    ),
+    (
+        FIRST,
+        "generalize out A.java 5 5 Object -- A.java",
+        "refused MEMBER A.java:6:5\n",
+    ),
+    (
+        MEMBER,
+        "generalize out A.java 3 55 A -- A.java",
+        "refused MEMBER A.java:3:70\n",
+    ),
+];
+
 #[test]
 fn each_refusal_has_its_line(rt: HostRuntime) -> Result<(), Fail> {
-    let alloc = rt.alloc();
-    assert!(rt; refuses(alloc, FIRST, "check -- A.java", b"refused N1 -\n")?);
-    assert!(rt; refuses(alloc, b"class A { int n; }\n", REQUEST, b"refused N2 -\n")?);
-    let unknown = "generalize out A.java 5 5 C -- A.java";
-    assert!(rt; refuses(alloc, FIRST, unknown, b"refused N2 -\n")?);
-    let nowhere = "generalize out A.java 5 6 A -- A.java";
-    assert!(rt; refuses(alloc, FIRST, nowhere, b"refused V1 -\n")?);
-    let far = "generalize out A.java 4294967301 5 A -- A.java";
-    assert!(rt; refuses(alloc, FIRST, far, b"refused V1 -\n")?);
-    let same = "generalize out A.java 5 5 B -- A.java";
-    assert!(rt; refuses(alloc, FIRST, same, b"refused V3 A.java:5:5\n")?);
-    let object = "generalize out A.java 5 5 Object -- A.java";
-    assert!(rt; refuses(alloc, FIRST, object, b"refused MEMBER A.java:6:5\n")?);
-    let there = "generalize out A.java 3 55 A -- A.java";
-    assert!(rt; refuses(alloc, MEMBER, there, b"refused MEMBER A.java:3:70\n")?);
+    for (text, line, report) in REFUSED {
+        assert!(rt; refuses(rt.alloc(), text, line, report)?, "{line}");
+    }
     Ok(())
 }
 
 /// The local x flows to y, whose type is B; then it is called.
-const FLOWS: &[u8] = b"class A { void m() { System.out.println(\"a\"); } }
+const FLOWS: &str = "class A { void m() { System.out.println(\"a\"); } }
 class B extends A { }
 class Main { public static void main(String[] args) {
     B x = new B();
@@ -152,121 +226,116 @@ class Main { public static void main(String[] args) {
 } }
 ";
 
+/// Words on `FLOWS`, and the report of their refusal.
+const CONSTRAINED: [(&str, &str); 3] = [
+    (
+        "generalize out A.java 4 5 A -- A.java",
+        "refused ASSIGN A.java:5:11\n",
+    ),
+    (
+        "generalize out A.java 4 5 Object -- A.java",
+        "refused ASSIGN A.java:5:11\n",
+    ),
+    (
+        "generalize out A.java 5 5 A -- A.java",
+        "refused ASSIGN A.java:7:9\n",
+    ),
+];
+
 #[test]
 fn values_are_constrained(rt: HostRuntime) -> Result<(), Fail> {
-    let alloc = rt.alloc();
-    let first = "generalize out A.java 4 5 A -- A.java";
-    assert!(rt; refuses(alloc, FLOWS, first, b"refused ASSIGN A.java:5:11\n")?);
-    let object = "generalize out A.java 4 5 Object -- A.java";
-    assert!(rt; refuses(alloc, FLOWS, object, b"refused ASSIGN A.java:5:11\n")?);
-    let second = "generalize out A.java 5 5 A -- A.java";
-    assert!(rt; refuses(alloc, FLOWS, second, b"refused ASSIGN A.java:7:9\n")?);
+    for (line, report) in CONSTRAINED {
+        assert!(rt; refuses(rt.alloc(), FLOWS, line, report)?, "{line}");
+    }
     Ok(())
 }
 
+/// Words that break a rule, and the report.
+const MISUSED: [(&str, &str); 5] = [
+    ("extract A.java", "usage U1\n"),
+    ("generalize out A.java 05 5 1 --", "usage U3\n"),
+    ("generalize . A.java 5 5 1 -- A.java", "usage U5\n"),
+    (
+        "generalize out A.java 5 5 A -- B.java + A.java",
+        "usage U8\n",
+    ),
+    ("", "usage U1\n"),
+];
+
 /// Whether these words break a rule, so that nothing is read and this is put.
-fn misuses(alloc: Global, line: &str, report: &[u8]) -> Result<bool, NoMemory> {
-    let mut files = files(alloc, FIRST, &[1])?;
-    let mut out = sink(alloc, &[])?;
-    let words = words(alloc, line)?;
-    let status = refactor(alloc, words.as_slice(), &mut files, &mut out);
-    Ok(status == Status::Usage && out.written() == report)
+fn misuses(alloc: Global, line: &str, report: &str) -> Result<bool, NoMemory> {
+    let mut files = files(alloc, &[("A.java", FIRST)], &[1])?;
+    answers(alloc, &mut files, line, Status::Usage, report)
 }
 
 #[test]
 fn the_lowest_rule_on_words_is_named(rt: HostRuntime) -> Result<(), Fail> {
-    let alloc = rt.alloc();
-    assert!(rt; misuses(alloc, "extract A.java", b"usage U1\n")?);
-    assert!(rt; misuses(alloc, "generalize out A.java 05 5 1 --", b"usage U3\n")?);
-    assert!(rt; misuses(alloc, "generalize . A.java 5 5 1 -- A.java", b"usage U5\n")?);
-    assert!(rt;
-        misuses(
-            alloc,
-            "generalize out A.java 5 5 A -- B.java + A.java",
-            b"usage U8\n"
-        )?
-    );
-    let nothing = Vec::new(alloc);
-    let mut files = files(alloc, FIRST, &[1])?;
-    let mut out = sink(alloc, &[])?;
-    assert_eq!(rt;
-        refactor(alloc, nothing.as_slice(), &mut files, &mut out),
-        Status::Usage
-    );
-    assert_eq!(rt; out.written(), b"usage U1\n".as_slice());
+    for (line, report) in MISUSED {
+        assert!(rt; misuses(rt.alloc(), line, report)?, "{line}");
+    }
     Ok(())
 }
+
+/// Texts, and the report of their refusal.
+const TEXTS: [(&str, &str); 7] = [
+    ("class A { float f; }\n", "refused S7 A.java:1:11\n"),
+    ("class A {", "refused G1 A.java:1:10\n"),
+    ("class A { String s = \"x; }\n", "refused X4 A.java:1:22\n"),
+    ("", "refused N2 -\n"),
+    (
+        "package p; public interface I<T> extends J { int n = 0; T m(T t) throws E; }\n",
+        "refused S10 A.java:1:12\n",
+    ),
+    (
+        "class A { } ; class Main { public static void main(String[] a) { } }\n",
+        "refused N2 -\n",
+    ),
+    (
+        "class A { } class Main { public static void main(String[] a) { } } // -\n",
+        "refused N2 -\n",
+    ),
+];
 
 #[test]
 fn texts_are_read_by_the_whole_grammar(rt: HostRuntime) -> Result<(), Fail> {
-    let alloc = rt.alloc();
-    let float = b"class A { float f; }\n";
-    assert!(rt; refuses(alloc, float, REQUEST, b"refused S7 A.java:1:11\n")?);
-    assert!(rt; refuses(alloc, b"class A {", REQUEST, b"refused G1 A.java:1:10\n")?);
-    let string = b"class A { String s = \"x; }\n";
-    assert!(rt; refuses(alloc, string, REQUEST, b"refused X4 A.java:1:22\n")?);
-    assert!(rt; refuses(alloc, b"", REQUEST, b"refused N2 -\n")?);
-    let library = b"package p; public interface I<T> extends J { int n = 0; T m(T t) throws E; }\n";
-    assert!(rt; refuses(alloc, library, REQUEST, b"refused S10 A.java:1:12\n")?);
-    let stray = b"class A { } ; class Main { public static void main(String[] a) { } }\n";
-    assert!(rt; refuses(alloc, stray, REQUEST, b"refused N2 -\n")?);
-    let comment = b"class A { } class Main { public static void main(String[] a) { } } // -\n";
-    assert!(rt; refuses(alloc, comment, REQUEST, b"refused N2 -\n")?);
+    for (text, report) in TEXTS {
+        assert!(rt; refuses(rt.alloc(), text, REQUEST, report)?, "{text}");
+    }
+    Ok(())
+}
+
+const TWO_FILES: [(&str, &str); 2] = [("a/A.java", FIRST), ("B.java", "class C { }")];
+
+#[test]
+fn two_files_are_no_small_program(rt: HostRuntime) -> Result<(), Fail> {
+    let line = "generalize out a/A.java 5 5 A -- B.java a/A.java";
+    assert!(rt; refuses_on(rt.alloc(), &TWO_FILES, line, "refused N2 -\n")?);
     Ok(())
 }
 
 #[test]
-fn two_files_are_no_small_program(rt: HostRuntime) -> Result<(), Fail> {
-    let alloc = rt.alloc();
-    let mut list = Vec::new(alloc);
-    list.push((
-        String::from_str(alloc, "a/A.java")?,
-        Vec::from_slice(alloc, FIRST)?,
-    ))?;
-    list.push((
-        String::from_str(alloc, "B.java")?,
-        Vec::from_slice(alloc, b"class C { }")?,
-    ))?;
-    let mut files = MemFiles::new(alloc, list, Vec::new(alloc))?;
-    files.reserve(2, 4096)?;
-    let mut out = sink(alloc, &[])?;
-    let both = words(alloc, "generalize out a/A.java 5 5 A -- B.java a/A.java")?;
-    assert_eq!(rt;
-        refactor(alloc, both.as_slice(), &mut files, &mut out),
-        Status::Refused
-    );
-    assert_eq!(rt; out.written(), b"refused N2 -\n".as_slice());
-    let mut out = sink(alloc, &[])?;
-    let one = words(alloc, "generalize out/b a/A.java 5 5 A -- a/A.java")?;
-    assert_eq!(rt;
-        refactor(alloc, one.as_slice(), &mut files, &mut out),
-        Status::Done
-    );
-    assert_eq!(rt; files.bytes("out/b/a/A.java"), Some(GENERALIZED));
+fn one_of_two_files_is_changed(rt: HostRuntime) -> Result<(), Fail> {
+    let mut files = files(rt.alloc(), &TWO_FILES, &[])?;
+    let line = "generalize out/b a/A.java 5 5 A -- a/A.java";
+    let (status, _) = answer(rt.alloc(), &mut files, &[], line)?;
+    assert_eq!(rt; status, Status::Done);
+    assert!(rt; has(&files, "out/b/a/A.java", Some(GENERALIZED)));
     Ok(())
 }
 
 #[test]
 fn a_missing_file_is_named(rt: HostRuntime) -> Result<(), Fail> {
-    let alloc = rt.alloc();
-    let mut files = files(alloc, FIRST, &[])?;
-    let mut out = sink(alloc, &[])?;
-    let words = words(alloc, "generalize out No.java 1 1 A -- No.java")?;
-    assert_eq!(rt;
-        refactor(alloc, words.as_slice(), &mut files, &mut out),
-        Status::Missing
-    );
-    assert_eq!(rt; out.written(), b"missing No.java\n".as_slice());
+    let mut files = files(rt.alloc(), &[("A.java", FIRST)], &[])?;
+    let line = "generalize out No.java 1 1 A -- No.java";
+    let report = "missing No.java\n";
+    assert!(rt; answers(rt.alloc(), &mut files, line, Status::Missing, report)?);
     Ok(())
 }
 
 /// A program with these classes and these statements in main.
 fn program(alloc: Global, classes: &str, statements: &str) -> Result<String, NoMemory> {
-    let mut text = String::from_str(alloc, classes)?;
-    text.push_str(" class Main { public static void main(String[] args) { ")?;
-    text.push_str(statements)?;
-    text.push_str(" } }\n")?;
-    Ok(text)
+    let front = "class Main { public static void main(String[] args) {";
+    Ok(format!(in alloc; "{classes} {front} {statements} }} }}\n")?)
 }
 
 /// No local's type begins at the first byte, so a small program is refused by the rule on the place.
@@ -357,29 +426,42 @@ const WRONG: [(&str, &str); 20] = [
     ),
 ];
 
+/// Whether a program is refused with this report.
+fn refuses_program(
+    alloc: Global,
+    classes: &str,
+    statements: &str,
+    report: &str,
+) -> Result<bool, NoMemory> {
+    let text = program(alloc, classes, statements)?;
+    refuses(alloc, text.as_str(), NOWHERE, report)
+}
+
 #[test]
-fn programs_are_checked(rt: HostRuntime) -> Result<(), Fail> {
-    let alloc = rt.alloc();
+fn right_programs_are_refused_for_the_place(rt: HostRuntime) -> Result<(), Fail> {
     for (classes, statements) in RIGHT {
-        let text = program(alloc, classes, statements)?;
-        assert!(rt;
-            refuses(alloc, text.as_bytes(), NOWHERE, b"refused V1 -\n")?,
-            "{text}"
-        );
+        let found = refuses_program(rt.alloc(), classes, statements, "refused V1 -\n")?;
+        assert!(rt; found, "{classes} {statements}");
     }
+    Ok(())
+}
+
+#[test]
+fn broken_declarations_are_refused(rt: HostRuntime) -> Result<(), Fail> {
     for (classes, report) in BROKEN {
-        let text = program(alloc, classes, "")?;
         assert!(rt;
-            refuses(alloc, text.as_bytes(), NOWHERE, report.as_bytes())?,
-            "{text}"
+            refuses_program(rt.alloc(), classes, "", report)?,
+            "{classes}"
         );
     }
+    Ok(())
+}
+
+#[test]
+fn programs_that_are_not_small_are_refused(rt: HostRuntime) -> Result<(), Fail> {
     for (classes, statements) in WRONG {
-        let text = program(alloc, classes, statements)?;
-        assert!(rt;
-            refuses(alloc, text.as_bytes(), NOWHERE, b"refused N2 -\n")?,
-            "{text}"
-        );
+        let found = refuses_program(rt.alloc(), classes, statements, "refused N2 -\n")?;
+        assert!(rt; found, "{classes} {statements}");
     }
     Ok(())
 }
@@ -543,53 +625,59 @@ const PROGRAMS: [(&[(&str, &str)], &str, &str); 22] = [
     ),
 ];
 
-/// Whether the words are refused on these files with this report, and nothing is written.
+/// Whether a place in the files is refused with this report.
 fn refuses_files(
     alloc: Global,
     texts: &[(&str, &str)],
     names: &str,
     report: &str,
 ) -> Result<bool, NoMemory> {
-    let mut list = Vec::new(alloc);
-    for (name, text) in texts {
-        let bytes = Vec::from_slice(alloc, text.as_bytes())?;
-        list.push((String::from_str(alloc, name)?, bytes))?;
-    }
-    let mut files = MemFiles::new(alloc, list, Vec::new(alloc))?;
-    files.reserve(1, 4096)?;
-    let mut out = sink(alloc, &[])?;
     let line = format!(in alloc; "generalize out A.java 1 1 A -- {names}")?;
-    let words = words(alloc, line.as_str())?;
-    let status = refactor(alloc, words.as_slice(), &mut files, &mut out);
-    let is_unwritten = files.bytes("out/A.java").is_none();
-    Ok(status == Status::Refused && is_unwritten && out.written() == report.as_bytes())
+    refuses_on(alloc, texts, line.as_str(), report)
 }
 
 #[test]
 fn declarations_of_all_files_are_judged_in_order(rt: HostRuntime) -> Result<(), Fail> {
-    let alloc = rt.alloc();
     for (texts, names, report) in PROGRAMS {
-        assert!(rt; refuses_files(alloc, texts, names, report)?, "{report}");
+        assert!(rt;
+            refuses_files(rt.alloc(), texts, names, report)?,
+            "{report}"
+        );
     }
     Ok(())
 }
 
-#[test]
-fn a_program_has_4096_types_at_most(rt: HostRuntime) -> Result<(), Fail> {
-    let alloc = rt.alloc();
+/// A class behind others.
+fn put_class(alloc: Global, text: &mut String, number: u32) -> Result<(), NoMemory> {
+    let class = format!(in alloc; "class A{number} {{ }}\n")?;
+    text.push_str(class.as_str())?;
+    Ok(())
+}
+
+/// A class that is above itself, 4096 others, and more text.
+fn many_classes(alloc: Global, more: &str) -> Result<String, NoMemory> {
     let mut text = String::from_str(alloc, "class B extends B { }\n")?;
     for number in 0..4096 {
-        text.push_str(format!(in alloc; "class A{number} {{ }}\n")?.as_str())?;
+        put_class(alloc, &mut text, number)?;
     }
-    assert!(rt; refuses(alloc, text.as_bytes(), NOWHERE, b"refused L6 -\n")?);
-    text.push_str("class B { }\n")?;
-    assert!(rt;
-        refuses(
-            alloc,
-            text.as_bytes(),
-            NOWHERE,
-            b"refused S23 A.java:4098:1\n"
-        )?
-    );
+    text.push_str(more)?;
+    Ok(text)
+}
+
+/// What stands behind the classes, and the report.
+const MANY: [(&str, &str); 2] = [
+    ("", "refused L6 -\n"),
+    ("class B { }\n", "refused S23 A.java:4098:1\n"),
+];
+
+#[test]
+fn a_program_has_4096_types_at_most(rt: HostRuntime) -> Result<(), Fail> {
+    for (more, report) in MANY {
+        let text = many_classes(rt.alloc(), more)?;
+        assert!(rt;
+            refuses(rt.alloc(), text.as_str(), NOWHERE, report)?,
+            "{report}"
+        );
+    }
     Ok(())
 }
