@@ -571,16 +571,21 @@ fn right_programs_have_a_world(rt: HostRuntime) -> Result<(), Fail> {
     Ok(())
 }
 
+/// Types by number, with so many supertypes, methods and fields: A has a default constructor, I none, and B one of its own.
+const IN_ORDER: [(usize, [usize; 3]); 3] = [(16, [2, 2, 2]), (17, [0, 0, 0]), (18, [1, 2, 1])];
+
 #[test]
 fn types_methods_and_fields_in_order(rt: HostRuntime) -> Result<(), Fail> {
     let files = [
         "class A extends B implements I { int a, b; void f() { } } interface I { }",
         "class B { B(int c) { } void g() { } int d; }",
     ];
-    // A has a default constructor, I none, and B one of its own.
-    assert!(rt; has_type(rt.alloc(), &files, &[], 16, [2, 2, 2]));
-    assert!(rt; has_type(rt.alloc(), &files, &[], 17, [0, 0, 0]));
-    assert!(rt; has_type(rt.alloc(), &files, &[], 18, [1, 2, 1]));
+    for (number, counts) in IN_ORDER {
+        assert!(rt;
+            has_type(rt.alloc(), &files, &[], number, counts),
+            "{number}"
+        );
+    }
     Ok(())
 }
 

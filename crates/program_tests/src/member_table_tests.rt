@@ -1187,14 +1187,6 @@ const LIBRARY: [Asked<'static>; 15] = [
     Found("ArrayList", "Iterable.iterator", "ArrayList.iterator"),
 ];
 
-/// A program with its members, or the rule that it breaks.
-#[derive(Drop)]
-struct Sample {
-    names: Names,
-    world: World,
-    members: Result<Members, Fault>,
-}
-
 /// The tree of a text, its nodes numbered from the first number on. `None` also for a long text.
 fn unit_of(alloc: Global, text: &str, first: u32, names: &mut Names) -> Option<SourceUnit> {
     let text = text.as_bytes();
@@ -1247,6 +1239,14 @@ fn files_of(alloc: Global, user: &[&str], lib: &[&str]) -> Option<Files> {
     Some(files)
 }
 
+/// A program with its members, or the rule that it breaks.
+#[derive(Drop)]
+struct Sample {
+    files: Files,
+    world: World,
+    members: Result<Members, Fault>,
+}
+
 /// The world of a program, where none of the rules on its declarations is broken.
 fn world_of(alloc: Global, files: &mut Files) -> Option<World> {
     if files.names.len() > 100_000 {
@@ -1260,7 +1260,7 @@ fn tabled(alloc: Global, user: &[&str], lib: &[&str]) -> Option<Sample> {
     let world = world_of(alloc, &mut files)?;
     let members = tabulate(alloc, &world);
     Some(Sample {
-        names: files.names,
+        files,
         world,
         members,
     })
@@ -1268,7 +1268,7 @@ fn tabled(alloc: Global, user: &[&str], lib: &[&str]) -> Option<Sample> {
 
 /// The number of the type with a simple name.
 fn type_named(s: &Sample, text: &str) -> Option<u32> {
-    let name = s.names.find(text)?;
+    let name = s.files.names.find(text)?;
     for c in 0..s.world.types.len() {
         if s.world.types.get(c)?.name == name {
             return u32::try_from(c).ok();
@@ -1284,7 +1284,7 @@ fn method_named(s: &Sample, text: &str) -> Option<u32> {
         None => (rest, 0),
         Some((name, more)) => (name, more.len() + 1),
     };
-    let name = s.names.find(name)?;
+    let name = s.files.names.find(name)?;
     let owner = type_named(s, owner)?;
     for m in s.world.types.get(owner as usize)?.methods.as_slice() {
         if s.world.methods.get(*m as usize)?.name != name {
@@ -1341,7 +1341,7 @@ fn are_counted(s: &Sample, text: &str, arity: usize, all: &str) -> bool {
     let Some((owner, name)) = text.split_once('.') else {
         return false;
     };
-    match (type_named(s, owner), s.names.find(name), &s.members) {
+    match (type_named(s, owner), s.files.names.find(name), &s.members) {
         (Some(owner), Some(name), Ok(members)) => {
             are_named(s, members.methods(owner, name, arity), all)
         }
@@ -1374,7 +1374,7 @@ fn owner_of_field(alloc: Global, s: &Sample, text: &str) -> Option<Option<u32>> 
         Ok(members) => members,
         Err(_) => return None,
     };
-    match s.names.find(name) {
+    match s.files.names.find(name) {
         None => Some(None),
         Some(name) => match members.field(&holder, name) {
             None => Some(None),
