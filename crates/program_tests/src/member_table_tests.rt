@@ -1247,18 +1247,28 @@ struct Sample {
     members: Result<Members, Fault>,
 }
 
-/// The world of a program, where none of the rules on its declarations is broken.
-fn world_of(alloc: Global, files: &mut Files) -> Option<World> {
+/// The world of a program with its members, where none of the rules on its declarations is broken.
+fn judged(alloc: Global, files: &mut Files) -> Option<(World, Result<Members, Fault>)> {
     if files.names.len() > 100_000 {
         return None;
     }
-    build(alloc, &files.user, &files.lib, &mut files.names).ok()
+    match build(
+        alloc,
+        files.user.as_slice(),
+        files.lib.as_slice(),
+        &mut files.names,
+    ) {
+        Ok(world) => {
+            let members = tabulate(alloc, &world);
+            Some((world, members))
+        }
+        Err(_) => None,
+    }
 }
 
 fn tabled(alloc: Global, user: &[&str], lib: &[&str]) -> Option<Sample> {
     let mut files = files_of(alloc, user, lib)?;
-    let world = world_of(alloc, &mut files)?;
-    let members = tabulate(alloc, &world);
+    let (world, members) = judged(alloc, &mut files)?;
     Some(Sample {
         files,
         world,
