@@ -1,4 +1,4 @@
-//! The declared types and methods of a small file, and the rules on its declarations (JLS 3rd edition, chapter 8).
+//! The world of a program, or the first broken rule on its declarations (JLS 3rd edition, chapters 6 to 9); and the declared types and methods of a small file.
 #![tactic(auto)]
 
 mod built_ins;

@@ -140,7 +140,7 @@ impl MemFiles {
     }
 
     /// Makes the room at least this many new names, and this many bytes of names and contents.
-    /// A write takes its name, where that is new, and its bytes; nothing is given back.
+    /// A write takes the bytes of its name and its content, and a name where that is new; nothing is given back.
     pub fn reserve(&mut self, names: usize, bytes: usize) -> Result<(), NoMemory>
         ensures ok { OnOk result (self.new ≡ record self.old {
           name_room = max self.old.name_room names;
