@@ -931,6 +931,28 @@ fn put_loop(out: &mut Written, look: Look<'_>, form: &StmtForm) {
     }
 }
 
+// A try or a loop, without its last bracket.
+#[cycle(stmts_out)]
+fn put_try(out: &mut Written, look: Look<'_>, form: &StmtForm) {
+    match form {
+        StmtForm::Try {
+            body,
+            catches,
+            last,
+        } => {
+            out.put("(try ");
+            put_stmt(out, look, body.get());
+            put_catches(out, look, catches.as_slice());
+            if let Some(last) = last {
+                out.put(" (finally ");
+                put_stmt(out, look, last.get());
+                out.put(")");
+            }
+        }
+        _ => put_loop(out, look, form),
+    }
+}
+
 // A form with parts, without its last bracket.
 #[cycle(stmts_out)]
 fn put_stmt_parts(out: &mut Written, look: Look<'_>, form: &StmtForm) {
@@ -968,21 +990,7 @@ fn put_stmt_parts(out: &mut Written, look: Look<'_>, form: &StmtForm) {
             put_one(out, look, "switch", on);
             put_groups(out, look, groups.as_slice())
         }
-        StmtForm::Try {
-            body,
-            catches,
-            last,
-        } => {
-            out.put("(try ");
-            put_stmt(out, look, body.get());
-            put_catches(out, look, catches.as_slice());
-            if let Some(last) = last {
-                out.put(" (finally ");
-                put_stmt(out, look, last.get());
-                out.put(")");
-            }
-        }
-        _ => put_loop(out, look, form),
+        _ => put_try(out, look, form),
     }
 }
 
