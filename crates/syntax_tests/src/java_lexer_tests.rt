@@ -2,6 +2,7 @@
 
 use java_lexer::{LexFault, bytes_of, character, integer, is_decimal, lex, text_of, text_units};
 use java_tree::tree::{Kind, Span, Token};
+use std::alloc::Global;
 use std::test::Fail;
 
 /// Texts and their tokens, each behind the letter of its kind: w word, k keyword, i int, l long, f float, c char, s string, o operator.
@@ -399,32 +400,68 @@ fn is(text: &[u8], token: Token, want: &[u8]) -> bool {
     *first == letter(token.kind) && bytes == Some(rest)
 }
 
-#[test]
-fn texts_have_these_tokens(rt: HostRuntime) -> Result<(), Fail> {
-    for (text, want) in LEXED {
-        assert!(rt; text.len() < 100);
-        let tokens = lex(rt.alloc(), text)?;
-        assert_eq!(rt; tokens.len(), want.len(), "in {text:?}");
-        for (token, want) in tokens.as_slice().iter().zip(want) {
-            assert!(rt; is(text, *token, want), "{want:?} in {text:?}");
+/// Whether a short text has these tokens.
+fn has_tokens(alloc: Global, text: &[u8], wanted: &[&[u8]]) -> bool {
+    if text.len() > 100 {
+        return false;
+    }
+    match lex(alloc, text) {
+        Ok(tokens) => are(text, tokens.as_slice(), wanted),
+        Err(_) => false,
+    }
+}
+
+/// Whether tokens of a text are so, one by one.
+fn are(text: &[u8], tokens: &[Token], wanted: &[&[u8]]) -> bool {
+    for (token, want) in tokens.iter().zip(wanted) {
+        if !is(text, *token, want) {
+            return false;
         }
     }
-    Ok(())
+    tokens.len() == wanted.len()
+}
+
+/// The first text that has other tokens than its own, or none.
+fn other<'a>(alloc: Global, texts: &[(&'a [u8], &[&[u8]])]) -> Option<&'a [u8]> {
+    for (text, wanted) in texts {
+        if !has_tokens(alloc, text, wanted) {
+            return Some(text);
+        }
+    }
+    None
+}
+
+#[test]
+fn texts_have_these_tokens(rt: HostRuntime) {
+    assert_eq!(rt; other(rt.alloc(), &LEXED), None);
+}
+
+/// The rule that a short text breaks, and where.
+fn fault(alloc: Global, text: &[u8]) -> Option<(u8, u32)> {
+    if text.len() > 1_000 {
+        return None;
+    }
+    match lex(alloc, text) {
+        Err(LexFault::Bad { rule, at }) => Some((rule, at)),
+        _ => None,
+    }
+}
+
+/// The first text that breaks another rule than its own, or none.
+fn other_fault<'a>(alloc: Global, texts: &[(&'a [u8], u8, u32)]) -> Option<&'a [u8]> {
+    for (text, rule, at) in texts {
+        if fault(alloc, text) != Some((*rule, *at)) {
+            return Some(text);
+        }
+    }
+    None
 }
 
 #[test]
 fn texts_break_these_rules(rt: HostRuntime) {
-    for (text, rule, at) in REFUSED {
-        assert!(rt; text.len() < 100);
-        let found = lex(rt.alloc(), text);
-        assert!(rt;
-            matches!(found, Err(LexFault::Bad { rule: r, at: a }) if r == rule && a == at),
-            "X{rule} at {at}"
-        );
-    }
+    assert_eq!(rt; other_fault(rt.alloc(), &REFUSED), None);
     // The quote stands at line 11, column 24.
-    let found = lex(rt.alloc(), CUT);
-    assert!(rt; matches!(found, Err(LexFault::Bad { rule: 4, at: 284 })));
+    assert_eq!(rt; fault(rt.alloc(), CUT), Some((4, 284)));
 }
 
 #[test]
@@ -434,60 +471,74 @@ fn library_files_have_tokens(rt: HostRuntime) -> Result<(), Fail> {
     Ok(())
 }
 
+/// Integer literals, their values, and whether they are decimal.
+const INTEGERS: [(&[u8], Option<u64>, bool); 14] = [
+    (b"0", Some(0), true),
+    (b"0L", Some(0), true),
+    (b"00", Some(0), false),
+    (b"2147483648", Some(2147483648), true),
+    (b"0777", Some(511), false),
+    (b"0xDadaCafe", Some(3671771902), false),
+    (b"0x00FFl", Some(255), false),
+    (b"9223372036854775808L", Some(9223372036854775808), true),
+    (b"18446744073709551615", Some(18446744073709551615), true),
+    (b"18446744073709551616", None, true),
+    (b"0xFFFFFFFFFFFFFFFF", Some(18446744073709551615), false),
+    (b"0x1FFFFFFFFFFFFFFFFL", None, false),
+    (
+        b"01777777777777777777777",
+        Some(18446744073709551615),
+        false,
+    ),
+    (b"0000000000000000000000000012", Some(10), false),
+];
+
 #[test]
-fn literals_have_these_values(rt: HostRuntime) -> Result<(), Fail> {
-    let integers: [(&[u8], Option<u64>, bool); 14] = [
-        (b"0", Some(0), true),
-        (b"0L", Some(0), true),
-        (b"00", Some(0), false),
-        (b"2147483648", Some(2147483648), true),
-        (b"0777", Some(511), false),
-        (b"0xDadaCafe", Some(3671771902), false),
-        (b"0x00FFl", Some(255), false),
-        (b"9223372036854775808L", Some(9223372036854775808), true),
-        (b"18446744073709551615", Some(18446744073709551615), true),
-        (b"18446744073709551616", None, true),
-        (b"0xFFFFFFFFFFFFFFFF", Some(18446744073709551615), false),
-        (b"0x1FFFFFFFFFFFFFFFFL", None, false),
-        (
-            b"01777777777777777777777",
-            Some(18446744073709551615),
-            false,
-        ),
-        (b"0000000000000000000000000012", Some(10), false),
-    ];
-    for (text, value, decimal) in integers {
+fn integers_have_these_values(rt: HostRuntime) {
+    for (text, value, decimal) in INTEGERS {
         assert_eq!(rt; integer(text), value);
         assert_eq!(rt; is_decimal(text), decimal);
     }
-    let characters: [(&str, u16); 8] = [
-        ("'a'", 97),
-        ("'\"'", 34),
-        ("'\\''", 39),
-        ("'\\n'", 10),
-        ("'\\0'", 0),
-        ("'\\377'", 255),
-        ("'é'", 233),
-        ("'€'", 8364),
-    ];
-    for (text, unit) in characters {
+}
+
+/// Character literals and their values.
+const CHARACTERS: [(&str, u16); 8] = [
+    ("'a'", 97),
+    ("'\"'", 34),
+    ("'\\''", 39),
+    ("'\\n'", 10),
+    ("'\\0'", 0),
+    ("'\\377'", 255),
+    ("'é'", 233),
+    ("'€'", 8364),
+];
+
+#[test]
+fn characters_have_these_values(rt: HostRuntime) {
+    for (text, unit) in CHARACTERS {
         assert_eq!(rt; character(text.as_bytes()), unit, "{text}");
     }
-    let texts: [(&str, &[u16]); 7] = [
-        ("\"\"", &[]),
-        ("\"Ab\"", &[65, 98]),
-        (
-            "\"\\b\\t\\n\\f\\r\\\"\\'\\\\\"",
-            &[8, 9, 10, 12, 13, 34, 39, 92],
-        ),
-        ("\"\\0\\18\\377\\400\"", &[0, 1, 56, 255, 32, 48]),
-        ("\"\\1234\"", &[83, 52]),
-        ("\"Σé€\"", &[931, 233, 8364]),
-        ("\"𝄞\"", &[0xd834, 0xdd1e]),
-    ];
-    for (text, want) in texts {
+}
+
+/// String literals and their values.
+const STRINGS: [(&str, &[u16]); 7] = [
+    ("\"\"", &[]),
+    ("\"Ab\"", &[65, 98]),
+    (
+        "\"\\b\\t\\n\\f\\r\\\"\\'\\\\\"",
+        &[8, 9, 10, 12, 13, 34, 39, 92],
+    ),
+    ("\"\\0\\18\\377\\400\"", &[0, 1, 56, 255, 32, 48]),
+    ("\"\\1234\"", &[83, 52]),
+    ("\"Σé€\"", &[931, 233, 8364]),
+    ("\"𝄞\"", &[0xd834, 0xdd1e]),
+];
+
+#[test]
+fn strings_have_these_values(rt: HostRuntime) -> Result<(), Fail> {
+    for (text, wanted) in STRINGS {
         let units = text_units(rt.alloc(), text.as_bytes())?;
-        assert!(rt; units.as_slice() == want, "{text}");
+        assert!(rt; units.as_slice() == wanted, "{text}");
     }
     Ok(())
 }
