@@ -351,11 +351,19 @@ fn has_text(alloc: Global, node: Node, expected: &str) -> bool {
     }
 }
 
+/// The number of the first node that has another text than its own, or none.
+fn other_text(alloc: Global, nodes: &[(usize, Node)], texts: &[&str]) -> Option<u32> {
+    for ((_depth, node), expected) in nodes.iter().zip(texts) {
+        if !has_text(alloc, *node, expected) {
+            return Some(node.id);
+        }
+    }
+    None
+}
+
 #[test]
 fn nodes_have_these_texts(rt: HostRuntime) -> Result<(), Fail> {
     let nodes = desk_nodes(rt.alloc())?;
-    for ((_depth, node), expected) in nodes.iter().zip(DESK_NODES) {
-        assert!(rt; has_text(rt.alloc(), *node, expected), "{}", node.id);
-    }
+    assert_eq!(rt; other_text(rt.alloc(), nodes.as_slice(), &DESK_NODES), None);
     Ok(())
 }
