@@ -51,13 +51,20 @@ fn broken(alloc: Global, words: &[String]) -> Result<u8, NoMemory> {
     }
 }
 
+/// The first line that breaks another rule than its own, or none.
+fn other<'a>(alloc: Global, lines: &[(&'a str, u8)]) -> Result<Option<&'a str>, NoMemory> {
+    for (line, rule) in lines {
+        let words = words(alloc, line)?;
+        if broken(alloc, words.as_slice())? != *rule {
+            return Ok(Some(line));
+        }
+    }
+    Ok(None)
+}
+
 #[test]
 fn the_first_rule_that_a_line_breaks(rt: HostRuntime) -> Result<(), Fail> {
-    for (line, rule) in LINES {
-        let words = words(rt.alloc(), line)?;
-        let found = broken(rt.alloc(), words.as_slice())?;
-        assert_eq!(rt; found, rule, "{line}");
-    }
+    assert_eq!(rt; other(rt.alloc(), &LINES)?, None);
     Ok(())
 }
 

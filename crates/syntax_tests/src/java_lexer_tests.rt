@@ -2,146 +2,123 @@
 
 use java_lexer::{LexFault, bytes_of, character, integer, is_decimal, lex, text_of, text_units};
 use java_tree::tree::{Kind, Span, Token};
+use std::alloc::Global;
 use std::test::Fail;
 
 /// Texts and their tokens, each behind the letter of its kind: w word, k keyword, i int, l long, f float, c char, s string, o operator.
-const LEXED: [(&[u8], &[&[u8]]); 66] = [
-    (b"", &[]),
-    (b" \t\x0c\n\r\r\n", &[]),
-    (b"foo", &[b"wfoo"]),
-    (b"_a1 $b", &[b"w_a1", b"w$b"]),
-    (b"class", &[b"kclass"]),
-    (b"classes Class", &[b"wclasses", b"wClass"]),
-    (b"true false null", &[b"ktrue", b"kfalse", b"knull"]),
-    (b"goto const strictfp", &[b"kgoto", b"kconst", b"kstrictfp"]),
+const LEXED: [(&str, &[&str]); 66] = [
+    ("", &[]),
+    (" \t\x0c\n\r\r\n", &[]),
+    ("foo", &["wfoo"]),
+    ("_a1 $b", &["w_a1", "w$b"]),
+    ("class", &["kclass"]),
+    ("classes Class", &["wclasses", "wClass"]),
+    ("true false null", &["ktrue", "kfalse", "knull"]),
+    ("goto const strictfp", &["kgoto", "kconst", "kstrictfp"]),
     (
-        b"enum assert instanceof",
-        &[b"kenum", b"kassert", b"kinstanceof"],
+        "enum assert instanceof",
+        &["kenum", "kassert", "kinstanceof"],
     ),
     (
-        b"synchronized volatile transient",
-        &[b"ksynchronized", b"kvolatile", b"ktransient"],
+        "synchronized volatile transient",
+        &["ksynchronized", "kvolatile", "ktransient"],
     ),
-    (b"String main", &[b"wString", b"wmain"]),
-    (b"0", &[b"i0"]),
-    (b"2147483648", &[b"i2147483648"]),
-    (b"0777 00", &[b"i0777", b"i00"]),
-    (b"0L 12l", &[b"l0L", b"l12l"]),
-    (b"0xDadaCafe 0X0", &[b"i0xDadaCafe", b"i0X0"]),
-    (b"0x00FFl", &[b"l0x00FFl"]),
-    (b"0x1g", &[b"i0x1", b"wg"]),
-    (b"0x1.8", &[b"i0x1", b"f.8"]),
-    (b"0x1p3", &[b"i0x1", b"wp3"]),
-    (b"12abc", &[b"i12", b"wabc"]),
+    ("String main", &["wString", "wmain"]),
+    ("0", &["i0"]),
+    ("2147483648", &["i2147483648"]),
+    ("0777 00", &["i0777", "i00"]),
+    ("0L 12l", &["l0L", "l12l"]),
+    ("0xDadaCafe 0X0", &["i0xDadaCafe", "i0X0"]),
+    ("0x00FFl", &["l0x00FFl"]),
+    ("0x1g", &["i0x1", "wg"]),
+    ("0x1.8", &["i0x1", "f.8"]),
+    ("0x1p3", &["i0x1", "wp3"]),
+    ("12abc", &["i12", "wabc"]),
     (
-        b"1e1f 2.f .3f 0f 3.14f 6.022137e+23f",
+        "1e1f 2.f .3f 0f 3.14f 6.022137e+23f",
+        &["f1e1f", "f2.f", "f.3f", "f0f", "f3.14f", "f6.022137e+23f"],
+    ),
+    (
+        "1e1 2. .3 0.0 3.14 1e-9d 1e137",
+        &["f1e1", "f2.", "f.3", "f0.0", "f3.14", "f1e-9d", "f1e137"],
+    ),
+    ("08.5 09e1 08f 099D", &["f08.5", "f09e1", "f08f", "f099D"]),
+    ("1e", &["i1", "we"]),
+    ("1e+", &["i1", "we", "o+"]),
+    ("1e+x", &["i1", "we", "o+", "wx"]),
+    ("1.e2", &["f1.e2"]),
+    ("1.foo", &["f1.f", "woo"]),
+    ("1..2", &["f1.", "f.2"]),
+    ("a.b", &["wa", "o.", "wb"]),
+    ("a.1", &["wa", "f.1"]),
+    ("1-1", &["i1", "o-", "i1"]),
+    ("a...b", &["wa", "o...", "wb"]),
+    ("..", &["o.", "o."]),
+    ("....5", &["o...", "f.5"]),
+    (
+        "( ) { } [ ] ; ,",
+        &["o(", "o)", "o{", "o}", "o[", "o]", "o;", "o,"],
+    ),
+    ("= > < ! ~ ? :", &["o=", "o>", "o<", "o!", "o~", "o?", "o:"]),
+    (
+        "+ - * / & | ^ %",
+        &["o+", "o-", "o*", "o/", "o&", "o|", "o^", "o%"],
+    ),
+    (
+        "== <= >= != && || ++ --",
+        &["o==", "o<=", "o>=", "o!=", "o&&", "o||", "o++", "o--"],
+    ),
+    (
+        "+= -= *= /= &= |= ^= %= <<=",
         &[
-            b"f1e1f",
-            b"f2.f",
-            b"f.3f",
-            b"f0f",
-            b"f3.14f",
-            b"f6.022137e+23f",
+            "o+=", "o-=", "o*=", "o/=", "o&=", "o|=", "o^=", "o%=", "o<<=",
         ],
     ),
+    ("<< <<<", &["o<<", "o<<", "o<"]),
+    (">> >>>", &["o>", "o>", "o>", "o>", "o>"]),
+    (">>= >>>=", &["o>", "o>=", "o>", "o>", "o>="]),
     (
-        b"1e1 2. .3 0.0 3.14 1e-9d 1e137",
-        &[
-            b"f1e1", b"f2.", b"f.3", b"f0.0", b"f3.14", b"f1e-9d", b"f1e137",
-        ],
+        "List<List<A>>x",
+        &["wList", "o<", "wList", "o<", "wA", "o>", "o>", "wx"],
+    ),
+    ("a+++b", &["wa", "o++", "o+", "wb"]),
+    ("a---b", &["wa", "o--", "o-", "wb"]),
+    ("===", &["o==", "o="]),
+    ("@Override", &["o@", "wOverride"]),
+    ("a // b", &["wa"]),
+    ("a // b\rc", &["wa", "wc"]),
+    ("//\n/ /", &["o/", "o/"]),
+    ("/**/a/* * / ** */b", &["wa", "wb"]),
+    ("/*/ */x", &["wx"]),
+    ("/* this comment /* // /** ends here: */x", &["wx"]),
+    ("// /*\nx // */", &["wx"]),
+    ("/* \u{e4} \u{20ac} \u{1d11e} */ // \u{3a3}\nx", &["wx"]),
+    ("a/b/=c", &["wa", "o/", "wb", "o/=", "wc"]),
+    ("'a' '%' '\"'", &["c'a'", "c'%'", "c'\"'"]),
+    (
+        "'\\t' '\\\\' '\\'' '\\\"'",
+        &["c'\\t'", "c'\\\\'", "c'\\''", "c'\\\"'"],
     ),
     (
-        b"08.5 09e1 08f 099D",
-        &[b"f08.5", b"f09e1", b"f08f", b"f099D"],
-    ),
-    (b"1e", &[b"i1", b"we"]),
-    (b"1e+", &[b"i1", b"we", b"o+"]),
-    (b"1e+x", &[b"i1", b"we", b"o+", b"wx"]),
-    (b"1.e2", &[b"f1.e2"]),
-    (b"1.foo", &[b"f1.f", b"woo"]),
-    (b"1..2", &[b"f1.", b"f.2"]),
-    (b"a.b", &[b"wa", b"o.", b"wb"]),
-    (b"a.1", &[b"wa", b"f.1"]),
-    (b"1-1", &[b"i1", b"o-", b"i1"]),
-    (b"a...b", &[b"wa", b"o...", b"wb"]),
-    (b"..", &[b"o.", b"o."]),
-    (b"....5", &[b"o...", b"f.5"]),
-    (
-        b"( ) { } [ ] ; ,",
-        &[b"o(", b"o)", b"o{", b"o}", b"o[", b"o]", b"o;", b"o,"],
+        "'\\0' '\\7' '\\77' '\\377' '\\101'",
+        &["c'\\0'", "c'\\7'", "c'\\77'", "c'\\377'", "c'\\101'"],
     ),
     (
-        b"= > < ! ~ ? :",
-        &[b"o=", b"o>", b"o<", b"o!", b"o~", b"o?", b"o:"],
+        "'\u{e9}' '\u{3a9}' '\u{20ac}'",
+        &["c'\u{e9}'", "c'\u{3a9}'", "c'\u{20ac}'"],
     ),
     (
-        b"+ - * / & | ^ %",
-        &[b"o+", b"o-", b"o*", b"o/", b"o&", b"o|", b"o^", b"o%"],
+        "\"\" \"\\\"\" \"This is a string\"",
+        &["s\"\"", "s\"\\\"\"", "s\"This is a string\""],
+    ),
+    ("\"\\400\"", &["s\"\\400\""]),
+    (
+        "\"a'b\" \"// /*\" \"\u{3a3} \u{1d11e}\"",
+        &["s\"a'b\"", "s\"// /*\"", "s\"\u{3a3} \u{1d11e}\""],
     ),
     (
-        b"== <= >= != && || ++ --",
-        &[
-            b"o==", b"o<=", b"o>=", b"o!=", b"o&&", b"o||", b"o++", b"o--",
-        ],
-    ),
-    (
-        b"+= -= *= /= &= |= ^= %= <<=",
-        &[
-            b"o+=", b"o-=", b"o*=", b"o/=", b"o&=", b"o|=", b"o^=", b"o%=", b"o<<=",
-        ],
-    ),
-    (b"<< <<<", &[b"o<<", b"o<<", b"o<"]),
-    (b">> >>>", &[b"o>", b"o>", b"o>", b"o>", b"o>"]),
-    (b">>= >>>=", &[b"o>", b"o>=", b"o>", b"o>", b"o>="]),
-    (
-        b"List<List<A>>x",
-        &[b"wList", b"o<", b"wList", b"o<", b"wA", b"o>", b"o>", b"wx"],
-    ),
-    (b"a+++b", &[b"wa", b"o++", b"o+", b"wb"]),
-    (b"a---b", &[b"wa", b"o--", b"o-", b"wb"]),
-    (b"===", &[b"o==", b"o="]),
-    (b"@Override", &[b"o@", b"wOverride"]),
-    (b"a // b", &[b"wa"]),
-    (b"a // b\rc", &[b"wa", b"wc"]),
-    (b"//\n/ /", &[b"o/", b"o/"]),
-    (b"/**/a/* * / ** */b", &[b"wa", b"wb"]),
-    (b"/*/ */x", &[b"wx"]),
-    (b"/* this comment /* // /** ends here: */x", &[b"wx"]),
-    (b"// /*\nx // */", &[b"wx"]),
-    (
-        b"/* \xc3\xa4 \xe2\x82\xac \xf0\x9d\x84\x9e */ // \xce\xa3\nx",
-        &[b"wx"],
-    ),
-    (b"a/b/=c", &[b"wa", b"o/", b"wb", b"o/=", b"wc"]),
-    (b"'a' '%' '\"'", &[b"c'a'", b"c'%'", b"c'\"'"]),
-    (
-        b"'\\t' '\\\\' '\\'' '\\\"'",
-        &[b"c'\\t'", b"c'\\\\'", b"c'\\''", b"c'\\\"'"],
-    ),
-    (
-        b"'\\0' '\\7' '\\77' '\\377' '\\101'",
-        &[b"c'\\0'", b"c'\\7'", b"c'\\77'", b"c'\\377'", b"c'\\101'"],
-    ),
-    (
-        b"'\xc3\xa9' '\xce\xa9' '\xe2\x82\xac'",
-        &[b"c'\xc3\xa9'", b"c'\xce\xa9'", b"c'\xe2\x82\xac'"],
-    ),
-    (
-        b"\"\" \"\\\"\" \"This is a string\"",
-        &[b"s\"\"", b"s\"\\\"\"", b"s\"This is a string\""],
-    ),
-    (b"\"\\400\"", &[b"s\"\\400\""]),
-    (
-        b"\"a'b\" \"// /*\" \"\xce\xa3 \xf0\x9d\x84\x9e\"",
-        &[
-            b"s\"a'b\"",
-            b"s\"// /*\"",
-            b"s\"\xce\xa3 \xf0\x9d\x84\x9e\"",
-        ],
-    ),
-    (
-        b"\"\\b\\t\\n\\f\\r\\\"\\'\\\\\\0\"",
-        &[b"s\"\\b\\t\\n\\f\\r\\\"\\'\\\\\\0\""],
+        "\"\\b\\t\\n\\f\\r\\\"\\'\\\\\\0\"",
+        &["s\"\\b\\t\\n\\f\\r\\\"\\'\\\\\\0\""],
     ),
 ];
 
@@ -391,40 +368,78 @@ fn letter(kind: Kind) -> u8 {
 }
 
 /// Whether a token has the letter's kind and the text behind it.
-fn is(text: &[u8], token: Token, want: &[u8]) -> bool {
-    let bytes = text.get(token.span.from as usize..token.span.to as usize);
-    let [first, rest @ ..] = want else {
+fn is(text: &str, token: Token, want: &str) -> bool {
+    let bytes = text
+        .as_bytes()
+        .get(token.span.from as usize..token.span.to as usize);
+    let [first, rest @ ..] = want.as_bytes() else {
         return false;
     };
     *first == letter(token.kind) && bytes == Some(rest)
 }
 
-#[test]
-fn texts_have_these_tokens(rt: HostRuntime) -> Result<(), Fail> {
-    for (text, want) in LEXED {
-        assert!(rt; text.len() < 100);
-        let tokens = lex(rt.alloc(), text)?;
-        assert_eq!(rt; tokens.len(), want.len(), "in {text:?}");
-        for (token, want) in tokens.as_slice().iter().zip(want) {
-            assert!(rt; is(text, *token, want), "{want:?} in {text:?}");
+/// Whether a short text has these tokens.
+fn has_tokens(alloc: Global, text: &str, wanted: &[&str]) -> bool {
+    if text.len() > 100 {
+        return false;
+    }
+    match lex(alloc, text.as_bytes()) {
+        Ok(tokens) => are(text, tokens.as_slice(), wanted),
+        Err(_) => false,
+    }
+}
+
+/// Whether tokens of a text are so, one by one.
+fn are(text: &str, tokens: &[Token], wanted: &[&str]) -> bool {
+    for (token, want) in tokens.iter().zip(wanted) {
+        if !is(text, *token, want) {
+            return false;
         }
     }
-    Ok(())
+    tokens.len() == wanted.len()
+}
+
+/// The first text that has other tokens than its own, or none.
+fn other<'a>(alloc: Global, texts: &[(&'a str, &[&str])]) -> Option<&'a str> {
+    for (text, wanted) in texts {
+        if !has_tokens(alloc, text, wanted) {
+            return Some(text);
+        }
+    }
+    None
+}
+
+#[test]
+fn texts_have_these_tokens(rt: HostRuntime) {
+    assert_eq!(rt; other(rt.alloc(), &LEXED), None);
+}
+
+/// The rule that a short text breaks, and where.
+fn fault(alloc: Global, text: &[u8]) -> Option<(u8, u32)> {
+    if text.len() > 1_000 {
+        return None;
+    }
+    match lex(alloc, text) {
+        Err(LexFault::Bad { rule, at }) => Some((rule, at)),
+        _ => None,
+    }
+}
+
+/// The first text that breaks another rule than its own, or none.
+fn other_fault<'a>(alloc: Global, texts: &[(&'a [u8], u8, u32)]) -> Option<&'a [u8]> {
+    for (text, rule, at) in texts {
+        if fault(alloc, text) != Some((*rule, *at)) {
+            return Some(text);
+        }
+    }
+    None
 }
 
 #[test]
 fn texts_break_these_rules(rt: HostRuntime) {
-    for (text, rule, at) in REFUSED {
-        assert!(rt; text.len() < 100);
-        let found = lex(rt.alloc(), text);
-        assert!(rt;
-            matches!(found, Err(LexFault::Bad { rule: r, at: a }) if r == rule && a == at),
-            "X{rule} at {at}"
-        );
-    }
+    assert_eq!(rt; other_fault(rt.alloc(), &REFUSED), None);
     // The quote stands at line 11, column 24.
-    let found = lex(rt.alloc(), CUT);
-    assert!(rt; matches!(found, Err(LexFault::Bad { rule: 4, at: 284 })));
+    assert_eq!(rt; fault(rt.alloc(), CUT), Some((4, 284)));
 }
 
 #[test]
@@ -434,60 +449,74 @@ fn library_files_have_tokens(rt: HostRuntime) -> Result<(), Fail> {
     Ok(())
 }
 
+/// Integer literals, their values, and whether they are decimal.
+const INTEGERS: [(&[u8], Option<u64>, bool); 14] = [
+    (b"0", Some(0), true),
+    (b"0L", Some(0), true),
+    (b"00", Some(0), false),
+    (b"2147483648", Some(2147483648), true),
+    (b"0777", Some(511), false),
+    (b"0xDadaCafe", Some(3671771902), false),
+    (b"0x00FFl", Some(255), false),
+    (b"9223372036854775808L", Some(9223372036854775808), true),
+    (b"18446744073709551615", Some(18446744073709551615), true),
+    (b"18446744073709551616", None, true),
+    (b"0xFFFFFFFFFFFFFFFF", Some(18446744073709551615), false),
+    (b"0x1FFFFFFFFFFFFFFFFL", None, false),
+    (
+        b"01777777777777777777777",
+        Some(18446744073709551615),
+        false,
+    ),
+    (b"0000000000000000000000000012", Some(10), false),
+];
+
 #[test]
-fn literals_have_these_values(rt: HostRuntime) -> Result<(), Fail> {
-    let integers: [(&[u8], Option<u64>, bool); 14] = [
-        (b"0", Some(0), true),
-        (b"0L", Some(0), true),
-        (b"00", Some(0), false),
-        (b"2147483648", Some(2147483648), true),
-        (b"0777", Some(511), false),
-        (b"0xDadaCafe", Some(3671771902), false),
-        (b"0x00FFl", Some(255), false),
-        (b"9223372036854775808L", Some(9223372036854775808), true),
-        (b"18446744073709551615", Some(18446744073709551615), true),
-        (b"18446744073709551616", None, true),
-        (b"0xFFFFFFFFFFFFFFFF", Some(18446744073709551615), false),
-        (b"0x1FFFFFFFFFFFFFFFFL", None, false),
-        (
-            b"01777777777777777777777",
-            Some(18446744073709551615),
-            false,
-        ),
-        (b"0000000000000000000000000012", Some(10), false),
-    ];
-    for (text, value, decimal) in integers {
+fn integers_have_these_values(rt: HostRuntime) {
+    for (text, value, decimal) in INTEGERS {
         assert_eq!(rt; integer(text), value);
         assert_eq!(rt; is_decimal(text), decimal);
     }
-    let characters: [(&str, u16); 8] = [
-        ("'a'", 97),
-        ("'\"'", 34),
-        ("'\\''", 39),
-        ("'\\n'", 10),
-        ("'\\0'", 0),
-        ("'\\377'", 255),
-        ("'é'", 233),
-        ("'€'", 8364),
-    ];
-    for (text, unit) in characters {
+}
+
+/// Character literals and their values.
+const CHARACTERS: [(&str, u16); 8] = [
+    ("'a'", 97),
+    ("'\"'", 34),
+    ("'\\''", 39),
+    ("'\\n'", 10),
+    ("'\\0'", 0),
+    ("'\\377'", 255),
+    ("'é'", 233),
+    ("'€'", 8364),
+];
+
+#[test]
+fn characters_have_these_values(rt: HostRuntime) {
+    for (text, unit) in CHARACTERS {
         assert_eq!(rt; character(text.as_bytes()), unit, "{text}");
     }
-    let texts: [(&str, &[u16]); 7] = [
-        ("\"\"", &[]),
-        ("\"Ab\"", &[65, 98]),
-        (
-            "\"\\b\\t\\n\\f\\r\\\"\\'\\\\\"",
-            &[8, 9, 10, 12, 13, 34, 39, 92],
-        ),
-        ("\"\\0\\18\\377\\400\"", &[0, 1, 56, 255, 32, 48]),
-        ("\"\\1234\"", &[83, 52]),
-        ("\"Σé€\"", &[931, 233, 8364]),
-        ("\"𝄞\"", &[0xd834, 0xdd1e]),
-    ];
-    for (text, want) in texts {
+}
+
+/// String literals and their values.
+const STRINGS: [(&str, &[u16]); 7] = [
+    ("\"\"", &[]),
+    ("\"Ab\"", &[65, 98]),
+    (
+        "\"\\b\\t\\n\\f\\r\\\"\\'\\\\\"",
+        &[8, 9, 10, 12, 13, 34, 39, 92],
+    ),
+    ("\"\\0\\18\\377\\400\"", &[0, 1, 56, 255, 32, 48]),
+    ("\"\\1234\"", &[83, 52]),
+    ("\"Σé€\"", &[931, 233, 8364]),
+    ("\"𝄞\"", &[0xd834, 0xdd1e]),
+];
+
+#[test]
+fn strings_have_these_values(rt: HostRuntime) -> Result<(), Fail> {
+    for (text, wanted) in STRINGS {
         let units = text_units(rt.alloc(), text.as_bytes())?;
-        assert!(rt; units.as_slice() == want, "{text}");
+        assert!(rt; units.as_slice() == wanted, "{text}");
     }
     Ok(())
 }

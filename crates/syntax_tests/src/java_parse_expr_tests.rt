@@ -1215,12 +1215,20 @@ fn texts_have_these_trees(rt: HostRuntime) {
     assert_eq!(rt; other(rt.alloc(), Call::Type, &TYPES), None);
 }
 
+/// The first text of which a tree stands at the first token, or none.
+fn accepted<'a>(alloc: Global, texts: &[(Call, &'a str)]) -> Option<&'a str> {
+    for (call, text) in texts {
+        match read(alloc, *call, text, WHOLE, false) {
+            Err(SyntaxFault::Bad { .. }) => {}
+            _ => return Some(text),
+        }
+    }
+    None
+}
+
 #[test]
 fn texts_have_no_tree(rt: HostRuntime) {
-    for (call, text) in REFUSED {
-        let found = read(rt.alloc(), call, text, WHOLE, false);
-        assert!(rt; matches!(found, Err(SyntaxFault::Bad { .. })), "{text}");
-    }
+    assert_eq!(rt; accepted(rt.alloc(), &REFUSED), None);
 }
 
 #[test]
@@ -1238,19 +1246,42 @@ fn nodes_have_numbers_and_spans(rt: HostRuntime) -> Result<(), Fail> {
     Ok(())
 }
 
-#[test]
-fn trees_nest_to_the_depth(rt: HostRuntime) -> Result<(), Fail> {
-    for (call, front, inner, back, most) in NESTED {
-        assert!(rt; most < 1000);
-        let text = nested(rt.alloc(), front, inner, back, most)?;
-        let found = read(rt.alloc(), call, text.as_str(), WHOLE, false);
-        assert!(rt; found.is_ok(), "{front} {inner} {back}");
-        let text = nested(rt.alloc(), front, inner, back, most + 1)?;
-        let found = read(rt.alloc(), call, text.as_str(), WHOLE, false);
-        assert!(rt;
-            matches!(found, Err(SyntaxFault::Bad { .. })),
-            "{front} {inner} {back}"
-        );
+/// What stands before, in and behind nested trees.
+type Form<'a> = (&'a str, &'a str, &'a str);
+
+/// The tree of so many levels of a form.
+fn read_nested(
+    alloc: Global,
+    call: Call,
+    form: Form<'_>,
+    levels: u32,
+) -> Result<String, SyntaxFault> {
+    let (front, inner, back) = form;
+    let text = nested(alloc, front, inner, back, levels)?;
+    read(alloc, call, text.as_str(), WHOLE, false)
+}
+
+/// Whether a form has a tree of so many levels, and none of one more.
+fn nests_to(alloc: Global, call: Call, form: Form<'_>, most: u32) -> bool {
+    let more = read_nested(alloc, call, form, most.saturating_add(1));
+    read_nested(alloc, call, form, most).is_ok() && matches!(more, Err(SyntaxFault::Bad { .. }))
+}
+
+/// The first form that nests to another depth than its own, or none.
+fn other_depth<'a>(
+    alloc: Global,
+    forms: &[(Call, &'a str, &'a str, &'a str, u32)],
+) -> Option<Form<'a>> {
+    for (call, front, inner, back, most) in forms {
+        let form = (*front, *inner, *back);
+        if !nests_to(alloc, *call, form, *most) {
+            return Some(form);
+        }
     }
-    Ok(())
+    None
+}
+
+#[test]
+fn trees_nest_to_the_depth(rt: HostRuntime) {
+    assert_eq!(rt; other_depth(rt.alloc(), &NESTED), None);
 }

@@ -72,6 +72,17 @@ const WRITES: [(&str, &[u8], Result<(), WriteFailed>, Option<&[u8]>, &str); 5] =
     ),
 ];
 
+/// Whether a write has this answer, and the file these bytes then.
+fn writes_so(
+    files: &mut MemFiles,
+    name: &str,
+    bytes: &[u8],
+    answer: Result<(), WriteFailed>,
+    held: Option<&[u8]>,
+) -> bool {
+    files.write(name, bytes) == answer && files.bytes(name) == held
+}
+
 #[test]
 fn writes(rt: HostRuntime) -> Result<(), Fail> {
     let mut files = one_file(rt.alloc())?;
@@ -79,17 +90,11 @@ fn writes(rt: HostRuntime) -> Result<(), Fail> {
     assert_eq!(rt; found, Err(WriteFailed), "no room for the name's bytes");
     files.reserve(1, 38)?;
     for (name, bytes, answer, held, why) in WRITES {
-        let found = files.write(name, bytes);
-        assert!(rt;
-            found == answer && files.bytes(name) == held,
-            "{name}: {why}"
-        );
+        let is_so = writes_so(&mut files, name, bytes, answer, held);
+        assert!(rt; is_so, "{name}: {why}");
     }
-    let other = files.bytes("B.java");
-    assert_eq!(rt;
-        (other, files.counts().write_faults),
-        (Some(b"class B { }".as_slice()), 4)
-    );
+    assert!(rt; files.bytes("B.java") == Some(b"class B { }".as_slice()));
+    assert_eq!(rt; files.counts().write_faults, 4);
     Ok(())
 }
 
