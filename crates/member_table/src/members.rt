@@ -10,7 +10,7 @@ ghost use Rattle.class_world.specs.Overriding.{FoundIs, IsFamily, Overriding};
 ghost use Rattle.class_world.specs.Sound.{IsKnown};
 ghost use Rattle.member_table.specs.Table.{HoldsMembers};
 
-use class_world::JavaType;
+use class_world::{JavaType, World};
 use counted_methods::CountedMethods;
 use found_methods::FoundMethods;
 use java_tree::tree::Name;
@@ -32,8 +32,8 @@ pub struct Members {
 
 impl Members {
     /// The number of the field that a name means in a type (JLS 8.3, 9.3): of its only member field of that name. Those of a class or interface are its members, those of an array and a type variable Object's. Takes no memory, and looks at as many nodes as the largest name of a field has bits, and one more.
-    pub fn field(&self, t: &JavaType, name: Name) -> Option<u32>
-        ensures { (w : worlds.World) → HoldsMembers w self.now → FieldIs w t.now name result }
+    pub fn field(&self, w: &World, t: &JavaType, name: Name) -> Option<u32>
+        ensures { HoldsMembers w.now self.now → FieldIs w.now t.now name result }
     {
         self.fields.get(t, name)
     }

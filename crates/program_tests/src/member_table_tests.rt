@@ -1386,7 +1386,7 @@ fn owner_of_field(alloc: Global, s: &Sample, text: &str) -> Option<Option<u32>> 
     };
     match s.files.names.find(name) {
         None => Some(None),
-        Some(name) => match members.field(&holder, name) {
+        Some(name) => match members.field(&s.world, &holder, name) {
             None => Some(None),
             Some(f) => Some(Some(s.world.fields.get(f as usize)?.owner)),
         },
