@@ -9,7 +9,7 @@ use Rattle.class_world.specs.declared.world.JavaType.{JavaType}
 use Rattle.class_world.specs.declared.world.JavaType.TheVariants as ty
 use Rattle.class_world.specs.Subclasses.{IsDirectSuper}
 use Rattle.class_world.specs.Types.{substitute}
-use Rattle.class_world.specs.Signatures.{IsMethod, HaveOneSignatureIn, AgreeBelow}
+use Rattle.class_world.specs.Signatures.{IsMethod, HasParams, HaveOneSignatureIn, AgreeBelow}
 use Rattle.class_world.specs.Access.{IsInterface}
 use Rattle.class_world.specs.Inheritance.{DeclaresMethod, IsDirectlyAbove, IsPrivateMethod, Inherits, IsMemberMethod}
 
@@ -53,11 +53,11 @@ pub data OverridesAtOnce (w : World) (m k : ℕ) : Type 0 where
   declared : {c : ℕ} → Replaces w c m k → AreInstanceMethods w m k → OverridesAtOnce w m k
   inherited : {c : ℕ} → MeetIn w c m k → AreInstanceMethods w m k → AgreeBelow w m k → OverridesAtOnce w m k
 
--- The method m overrides k: at once, or through a third, which it overrides at once and which overrides k; then too only where m and k have one signature in each type
--- below those that declare them. Private methods are not overridden, and no method overrides itself.
+-- The method m overrides k: at once, or through a third, which it overrides and which overrides k; then too only where m and k have one signature in each type below
+-- those that declare them. Private methods are not overridden, and no method overrides itself.
 pub data Overriding (w : World) : ℕ → ℕ → Type 0 where
   at_once : {m k : ℕ} → OverridesAtOnce w m k → Overriding w m k
-  through : {m t k : ℕ} → OverridesAtOnce w m t → Overriding w t k → (m ≡ k → ⊥) → AgreeBelow w m k → Overriding w m k
+  through : {m t k : ℕ} → Overriding w m t → Overriding w t k → (m ≡ k → ⊥) → AgreeBelow w m k → Overriding w m k
 
 -- The family of a method: all that overriding ties to it, in either direction.
 pub data IsFamily (w : World) (m : ℕ) : ℕ → Type 0 where
@@ -65,19 +65,25 @@ pub data IsFamily (w : World) (m : ℕ) : ℕ → Type 0 where
   above : {t k : ℕ} → IsFamily w m t → Overriding w t k → IsFamily w m k
   below : {t k : ℕ} → IsFamily w m t → Overriding w k t → IsFamily w m k
 
--- the parameter types hold no type variable, and are the same
-abbrev pub HaveOneParameterList : World → ℕ → ℕ → Type 0
-HaveOneParameterList w m k =
-    (i : MethodInfo) × (j : MethodInfo) × IsMethod w m i × IsMethod w k j × (i.params ≡ j.params) × ((args : List JavaType) → map (substitute args) i.params ≡ i.params)
+-- The parameter types of a method on an object of the class o: as o sees them, and as they are declared where they hold no type variable.
+abbrev pub ParamsOn : World → ℕ → ℕ → List JavaType → Type 0
+ParamsOn w o m ps =
+    HasParams w o m ps
+    ⊎ ((info : MethodInfo) × IsMethod w m info × (ps ≡ info.params) × ((args : List JavaType) → map (substitute args) info.params ≡ info.params))
 
--- The class c declares k, of m's family, which is m, overrides m, or has m's parameter types.
-abbrev pub Answers : World → ℕ → ℕ → ℕ → Type 0
-Answers w m c k = IsClass w c × DeclaresMethod w c k × IsFamily w m k × ((k ≡ m) ⊎ Overriding w k m ⊎ HaveOneParameterList w k m)
+-- on such an object two methods have the same parameter types
+abbrev pub HaveOneParameterList : World → ℕ → ℕ → ℕ → Type 0
+HaveOneParameterList w o m k = (ps : List JavaType) × ParamsOn w o m ps × ParamsOn w o k ps
 
--- The first class from c upwards, along superclasses, that declares an answer; where it declares more, the first of them.
-pub data IsAnswer (w : World) (m : ℕ) : ℕ → ℕ → Type 0 where
-  here : {c k : ℕ} → Answers w m c k → ((j : ℕ) → j < k → Answers w m c j → ⊥) → IsAnswer w m c k
-  further : {c s k : ℕ} → ((j : ℕ) → Answers w m c j → ⊥) → IsSuperclass w c s → IsAnswer w m s k → IsAnswer w m c k
+-- For an object of the class o, the class c declares k, of m's family, which is m, overrides m, or has m's parameter types.
+abbrev pub Answers : World → ℕ → ℕ → ℕ → ℕ → Type 0
+Answers w o m c k = IsClass w c × DeclaresMethod w c k × IsFamily w m k × ((k ≡ m) ⊎ Overriding w k m ⊎ HaveOneParameterList w o k m)
+
+-- The first class from c upwards, along superclasses, that declares an answer; where it declares more, m itself, and else the first of them.
+pub data IsAnswer (w : World) (o m : ℕ) : ℕ → ℕ → Type 0 where
+  itself : {c : ℕ} → IsClass w c → DeclaresMethod w c m → IsAnswer w o m c m
+  here : {c k : ℕ} → (DeclaresMethod w c m → ⊥) → Answers w o m c k → ((j : ℕ) → j < k → Answers w o m c j → ⊥) → IsAnswer w o m c k
+  further : {c s k : ℕ} → ((j : ℕ) → Answers w o m c j → ⊥) → IsSuperclass w c s → IsAnswer w o m s k → IsAnswer w o m c k
 
 -- methods that no object's class chooses
 abbrev pub IsFixed : World → ℕ → Type 0
@@ -86,7 +92,7 @@ IsFixed w m = (info : MethodInfo) × (slice_get w.methods m ≡ Some info) × ((
 -- The lookup of a method on an object of the class c: a constructor, a static and a private method are themselves.
 pub data IsFound (w : World) (m c : ℕ) : ℕ → Type 0 where
   fixed : IsFixed w m → IsFound w m c m
-  chosen : {k : ℕ} → (IsFixed w m → ⊥) → IsAnswer w m c k → IsFound w m c k
+  chosen : {k : ℕ} → (IsFixed w m → ⊥) → IsAnswer w c m c k → IsFound w m c k
 
 abbrev pub FoundIs : World → ℕ → ℕ → Option ℕ → Type 0
 FoundIs w m c None = (k : ℕ) → IsFound w m c k → ⊥

@@ -8,7 +8,7 @@ use Rattle.java_tree.specs.declared.fault.Family.TheVariants as family
 use Rattle.java_tree.specs.declared.fault.NoMemory.{NoMemory}
 use Rattle.java_tree.specs.Plain.{SourceUnit}
 use Rattle.rule_order.specs.declared.Breach.{Breach}
-use Rattle.rule_order.specs.First.{Breaches, IsFirst}
+use Rattle.rule_order.specs.First.{Breaches, IsFirst, IsNone, IsFirstOf}
 use Rattle.type_names.specs.declared.known.JavaNames.{JavaNames}
 use Rattle.type_names.specs.Known.{File, files_of}
 use Rattle.type_names.specs.Tables.{files_in}
@@ -27,7 +27,7 @@ use Rattle.written_types.specs.Places.{Place}
 use Rattle.decl_table.specs.declared.program.Judged.{Judged}
 use Rattle.decl_table.specs.declared.program.Judged.TheVariants as judged
 use Rattle.decl_table.specs.Bases.{AreBases}
-use Rattle.decl_table.specs.Program.{Program, java, files, built, ScopeSet, ScopeBreaches, sum, total, type_count, method_count, DeclarationSet, IsNone, IsFirstOf, IsLimitOver, IsEarlyRefusal, IsRefusal, SameDeclared}
+use Rattle.decl_table.specs.Program.{Program, java, files, built, ScopeSet, ScopeBreaches, sum, total, type_count, method_count, DeclarationSet, IsLimitOver, IsEarlyRefusal, IsRefusal, SameDeclared}
 use Rattle.decl_table.specs.Judged.{IsJudged, IsDeclared, IsEarly, IsTabled, named}
 use Rattle.decl_table.proofs.Fitting.{made}
 use Rattle.decl_table.proofs.Orders.{supers_in_order}

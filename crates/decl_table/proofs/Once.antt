@@ -5,11 +5,11 @@ use Rattle.java_tree.specs.declared.fault.Family.{Family}
 use Rattle.java_tree.specs.Names.{AreDistinct}
 use Rattle.java_tree.specs.Plain.{SourceUnit}
 use Rattle.rule_order.specs.declared.Breach.{Breach}
-use Rattle.rule_order.specs.First.{Breaches, IsBefore}
+use Rattle.rule_order.specs.First.{Breaches, IsBefore, IsNone, IsFirstOf}
 use Rattle.class_world.specs.declared.world.World.{World}
 use Rattle.built_in_types.specs.declared.words.Words.{Words}
 use Rattle.built_in_types.proofs.Once.{words_once}
-use Rattle.decl_table.specs.Program.{Program, ScopeBreaches, DeclarationBreaches, type_count, method_count, IsNone, IsFirstOf, IsLimit, IsEarlyRefusal, IsRefusal, IsProgramWorld}
+use Rattle.decl_table.specs.Program.{Program, ScopeBreaches, DeclarationBreaches, type_count, method_count, IsLimit, IsEarlyRefusal, IsRefusal, IsProgramWorld}
 use Rattle.decl_table.specs.Judged.{IsProgram}
 
 -- ---- one program

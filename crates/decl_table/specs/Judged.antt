@@ -12,12 +12,12 @@ use Rattle.class_world.specs.Sound.{IsSound}
 use Rattle.built_in_types.specs.BuiltIns.{AreWords}
 use Rattle.decl_table.specs.declared.program.Judged.{Judged}
 use Rattle.decl_table.specs.declared.program.Judged.TheVariants as judged
-use Rattle.decl_table.specs.Program.{Program, DeclarationSet, IsNone, IsFirstOf, IsEarlyRefusal, IsRefusal, IsProgramWorld, SameDeclared}
+use Rattle.decl_table.specs.Program.{Program, DeclarationSet, IsEarlyRefusal, IsRefusal, IsProgramWorld, SameDeclared}
 use Rattle.built_in_types.specs.declared.types.BuiltIns.{BuiltIns}
 use Rattle.type_names.specs.declared.known.JavaNames.{JavaNames}
 use Rattle.type_names.specs.Known.{File}
 use Rattle.program_world.specs.ProgramWorld.{world_of}
-use Rattle.rule_order.specs.First.{Breaches}
+use Rattle.rule_order.specs.First.{Breaches, IsNone, IsFirstOf}
 use Rattle.iterables.specs.Walks.{WalkIs}
 
 abbrev pub IsJudged : List (List ℕ) → Program → Judged → Type 0

@@ -7,7 +7,7 @@ use Rattle.java_tree.specs.declared.fault.Family.{Family}
 use Rattle.java_tree.specs.declared.fault.Family.TheVariants as family
 use Rattle.java_tree.specs.Plain.{SourceUnit}
 use Rattle.rule_order.specs.declared.Breach.{Breach}
-use Rattle.rule_order.specs.First.{Breaches, Either, IsFirst}
+use Rattle.rule_order.specs.First.{Breaches, Either, IsNone, IsFirstOf}
 use Rattle.type_names.specs.declared.known.JavaNames.{JavaNames}
 use Rattle.type_names.specs.Known.{File, files_of}
 use Rattle.type_names.specs.Sees.{meant}
@@ -127,13 +127,6 @@ abbrev pub DeclarationBreaches : Program → Breaches
 DeclarationBreaches p = DeclarationSet (built p.words) (java p) (files p)
 
 -- ---- what comes of a program
-
-abbrev pub IsNone : Breaches → Type 0
-IsNone S = (b : Breach) → S b → ⊥
-
--- the first of a set, as the rule of a family
-abbrev pub IsFirstOf : Family → Breaches → Broken → Type 0
-IsFirstOf f S b = (b.family ≡ f) × ((n : ℕ) × (b.node ≡ Some n) × IsFirst S (Some (record { node = n; rule = b.number })))
 
 -- a rule on the whole program, which has no node
 abbrev pub IsLimit : ℕ → Broken → Type 0

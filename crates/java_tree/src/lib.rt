@@ -13,3 +13,4 @@ pub use children::{Item, child};
 pub use fault::{Broken, Family, Fault, NoMemory};
 pub use items::Items;
 pub use names::{BUILT_IN_TYPES, Names};
+pub use tree::{Kind, Name, Span, Token};

@@ -1,8 +1,7 @@
 -- What the judging of a program's members answers.
 use Rattle.std.specs.Prelude.{Some}
-use Rattle.rule_order.specs.First.{IsFirst}
+use Rattle.rule_order.specs.First.{IsFirst, IsNone}
 use Rattle.class_world.specs.declared.world.World.{World}
-use Rattle.decl_table.specs.Program.{IsNone}
 use Rattle.member_table.specs.declared.build.Judged.{Judged}
 use Rattle.member_table.specs.declared.build.Judged.TheVariants as judged
 use Rattle.member_table.specs.Table.{HoldsMembers, MemberBreaches}

@@ -3,7 +3,7 @@ use Rattle.std.specs.Prelude.{Result, Ok, Err}
 use Rattle.java_tree.specs.declared.fault.Family.TheVariants as family
 use Rattle.java_tree.specs.declared.fault.Fault.{Fault}
 use Rattle.java_tree.specs.declared.fault.Fault.TheVariants as fault
-use Rattle.rule_order.specs.First.{Breaches, Either}
+use Rattle.rule_order.specs.First.{Breaches, Either, IsNone, IsFirstOf}
 use Rattle.class_world.specs.declared.world.World.{World}
 use Rattle.member_fields.specs.Fields.{HoldsFields}
 use Rattle.overrides.specs.Overrides.{HoldsOverrides}
@@ -13,7 +13,6 @@ use Rattle.method_groups.specs.Groups.{HoldsGroups}
 use Rattle.found_methods.specs.Found.{HoldsFound}
 use Rattle.override_rules.specs.Rules.{OverrideBreaches}
 use Rattle.inherited_rules.specs.Rules.{InheritedBreaches}
-use Rattle.decl_table.specs.Program.{IsNone, IsFirstOf}
 use Rattle.member_table.specs.declared.members.Members.{Members}
 
 -- DR13 to DR20

@@ -9,7 +9,8 @@ use Rattle.java_tree.specs.Plain as t
 use Rattle.java_tree.specs.View.{unit_plain}
 use Rattle.built_in_types.specs.BuiltIns.{with_words}
 use Rattle.class_world.specs.declared.world.World.{World}
-use Rattle.decl_table.specs.Program.{Program, IsNone, IsRefusal, IsProgramWorld}
+use Rattle.rule_order.specs.First.{IsNone}
+use Rattle.decl_table.specs.Program.{Program, IsRefusal, IsProgramWorld}
 use Rattle.decl_table.specs.Judged.{IsProgram, IsBuilding}
 use Rattle.member_table.specs.Table.{MemberBreaches, IsTabling}
 use Rattle.refactor_app.specs.Declarations.{IsOfFiles, AreDeclared, IsBroken}

@@ -7,10 +7,10 @@ use Rattle.java_tree.specs.declared.fault.Broken.{Broken}
 use Rattle.java_tree.specs.declared.fault.Family.{Family}
 use Rattle.java_tree.specs.declared.fault.Family.TheVariants as family
 use Rattle.rule_order.specs.declared.Breach.{Breach}
-use Rattle.rule_order.specs.First.{Breaches, IsBefore, IsFirst}
+use Rattle.rule_order.specs.First.{Breaches, IsBefore, IsFirst, IsNone, IsFirstOf}
 use Rattle.built_in_types.specs.BuiltIns.{texts, with_texts, with_words}
 use Rattle.class_world.specs.declared.world.World.{World}
-use Rattle.decl_table.specs.Program.{Program, IsNone, IsFirstOf, IsRefusal, IsProgramWorld}
+use Rattle.decl_table.specs.Program.{Program, IsRefusal, IsProgramWorld}
 use Rattle.decl_table.proofs.Once as once
 use Rattle.member_table.specs.Table.{MemberBreaches}
 use Rattle.refactor_app.specs.Declarations.{IsOfFiles, AreDeclared, IsMemberRefusal, IsBroken}

@@ -7,7 +7,8 @@ use Rattle.java_tree.specs.declared.fault.Family.{Family}
 use Rattle.java_tree.specs.declared.fault.Family.TheVariants as family
 use Rattle.edit_writer.specs.Places.{place_at}
 use Rattle.class_world.specs.declared.world.World.{World}
-use Rattle.decl_table.specs.Program.{Program, IsNone, IsFirstOf, IsRefusal, IsProgramWorld}
+use Rattle.rule_order.specs.First.{IsNone, IsFirstOf}
+use Rattle.decl_table.specs.Program.{Program, IsRefusal, IsProgramWorld}
 use Rattle.decl_table.specs.Judged.{IsProgram}
 use Rattle.member_table.specs.Table.{MemberBreaches}
 use Rattle.node_places.specs.declared.place.NodePlace.{NodePlace}

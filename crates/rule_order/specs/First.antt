@@ -1,5 +1,7 @@
 -- The first of a set of broken rules.
-use Rattle.std.specs.Prelude.{◌≡◌, ◌<◌, ◌≤◌, ◌⊎◌, Option, Some, None}
+use Rattle.std.specs.Prelude.{◌≡◌, ℕ, ◌<◌, ◌≤◌, ◌⊎◌, Option, Some, None}
+use Rattle.java_tree.specs.declared.fault.Broken.{Broken}
+use Rattle.java_tree.specs.declared.fault.Family.{Family}
 use Rattle.rule_order.specs.declared.Breach.{Breach}
 
 -- a set of broken rules
@@ -17,6 +19,13 @@ IsBefore a b = (a.node < b.node) ⊎ ((a.node ≡ b.node) × (a.rule ≤ b.rule)
 abbrev pub IsFirst : Breaches → Option Breach → Type 0
 IsFirst A None = (b : Breach) → A b → ⊥
 IsFirst A (Some a) = A a × ((b : Breach) → A b → IsBefore a b)
+
+abbrev pub IsNone : Breaches → Type 0
+IsNone A = (b : Breach) → A b → ⊥
+
+-- the first of a set, as the rule of a family
+abbrev pub IsFirstOf : Family → Breaches → Broken → Type 0
+IsFirstOf f A b = (b.family ≡ f) × ((n : ℕ) × (b.node ≡ Some n) × IsFirst A (Some (record { node = n; rule = b.number })))
 
 -- the third is the one of two that is named, if there is one
 abbrev pub IsEarlier : Option Breach → Option Breach → Option Breach → Type 0

@@ -1,7 +1,7 @@
 use Rattle.std.proofs.Common.{◌≡◌, ◌<◌, ◌^◌, map, length, sym, ap, ◌∙◌, subst}
 use Rattle.java_tree.specs.View.{unit_plain}
 use Rattle.java_tree.specs.declared.fault.Family.TheVariants as family
-use Rattle.rule_order.specs.First.{IsFirst, IsEarlier}
+use Rattle.rule_order.specs.First.{IsFirst, IsEarlier, IsFirstOf}
 use Rattle.rule_order.proofs.Firsts.{first_of_both}
 use Rattle.class_world.specs.declared.world.World.{World}
 use Rattle.class_world.specs.Merged.{IsAboveItself}
@@ -10,7 +10,7 @@ use Rattle.class_world.specs.Sound.{AreSupers, HaveClassSupers}
 use Rattle.type_names.specs.Known.{files_of}
 use Rattle.type_headers.specs.Declared.{headers}
 use Rattle.program_world.specs.ProgramWorld.{world_of}
-use Rattle.decl_table.specs.Program.{RuleBreaches, ClashBreaches, DeclarationSet, IsFirstOf}
+use Rattle.decl_table.specs.Program.{RuleBreaches, ClashBreaches, DeclarationSet}
 use Rattle.decl_table.specs.Clashes.{IsFirstClash}
 use Rattle.decl_table.proofs.Orders.{class_supers}
 use Rattle.decl_table.proofs.Clashing.{first_clash, no_clash, none_second}
