@@ -13,6 +13,5 @@ pub mod OneReading
 pub mod OneSense
 pub mod OneVerdict
 pub mod Places
-pub mod SameMembers
 pub mod Smalls
 pub mod Tables

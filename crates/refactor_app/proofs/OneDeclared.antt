@@ -14,7 +14,7 @@ use Rattle.decl_table.specs.Program.{Program, IsRefusal, IsProgramWorld}
 use Rattle.decl_table.proofs.Once as once
 use Rattle.member_table.specs.Table.{MemberBreaches}
 use Rattle.refactor_app.specs.Declarations.{IsOfFiles, AreDeclared, IsMemberRefusal, IsBroken}
-use Rattle.refactor_app.proofs.SameMembers.{AreAlike, broken_alike}
+use Rattle.member_table.proofs.SameMembers.{AreAlike, broken_alike}
 
 -- ---- the table of names
 
