@@ -458,7 +458,7 @@ const OVERRIDING_RULES: [Case<'static>; 43] = [
 ];
 
 /// DR18 to DR20, and those before them.
-const MEMBER_RULES: [Case<'static>; 22] = [
+const MEMBER_RULES: [Case<'static>; 26] = [
     (
         "interface I { void m(); } class A implements I { }",
         &[Refused(18, "A")],
@@ -486,6 +486,28 @@ const MEMBER_RULES: [Case<'static>; 22] = [
     (
         "interface I { Object m(); } interface J { String m(); } interface K extends I, J { }",
         &[Apart("J.m", "I.m")],
+    ),
+    // The result of a third fits both.
+    (
+        "interface X { } interface Y { } class R implements X, Y { } interface I { X m(); } interface J { Y m(); } interface L { R m(); } interface K extends I, J, L { }",
+        &[Apart("L.m", "I.m"), Counted("K.m", 0, "I.m")],
+    ),
+    (
+        "interface X { } interface Y { } class R implements X, Y { } interface I { X m(); } interface J { Y m(); } class S { public R m() { return null; } } class C extends S implements I { } class E extends C implements J { }",
+        &[
+            Over("S.m", "I.m"),
+            Over("S.m", "J.m"),
+            Counted("E.m", 0, "S.m"),
+        ],
+    ),
+    // That of a third fits one of two alone.
+    (
+        "interface X { } interface Y { } class Z implements X { } interface I { X m(); } interface J { Y m(); } interface L { Z m(); } interface K extends I, J, L { }",
+        &[Refused(19, "K")],
+    ),
+    (
+        "interface X { } interface Y { } interface Z { } class R implements X, Y { } class P extends R implements Z { } interface I { X m(); } interface J { Y m(); } interface L { Z m(); } interface N { P m(); } interface K extends I, J, L { } interface H extends I, J, L, N { }",
+        &[Refused(19, "K")],
     ),
     // Two rules at one class.
     (
@@ -552,7 +574,7 @@ const MEMBER_RULES: [Case<'static>; 22] = [
 ];
 
 /// Library files with generic types, whose names are those of the package `l`.
-const GENERIC: [Case<'static>; 42] = [
+const GENERIC: [Case<'static>; 48] = [
     (
         "package l; class A<T> { void m(T x) { } } class B extends A<String> { void m(String x) { } }",
         &[
@@ -652,6 +674,47 @@ const GENERIC: [Case<'static>; 42] = [
             Grouped("A.m", "A.m A.m'"),
         ],
     ),
+    // X takes the overriding of K's method from C's, and not from F's: it overrides one that overrides K's. What runs on a D is what D sees with K's parameter types.
+    (
+        "package l; interface K<T> { void m(T x); } interface J extends K<String> { void m(String x); } class C { public void m(String x) { } } class D extends C implements J { } abstract class X extends C implements K<Exception> { } class F extends C { public void m(String x) { } }",
+        &[
+            Over("C.m", "J.m"),
+            Apart("C.m", "K.m"),
+            Over("F.m", "C.m"),
+            Over("F.m", "J.m"),
+            Over("F.m", "K.m"),
+            Tied("K.m", "K.m J.m C.m F.m"),
+            Found("D", "K.m", "C.m"),
+            Found("C", "K.m", ""),
+            Found("X", "K.m", ""),
+            Found("F", "K.m", "F.m"),
+        ],
+    ),
+    // A class that declares the method itself runs it, although another has its parameter types there. javac refuses B, for two methods with a body.
+    (
+        "package l; interface J { void m(String x); } class A<T> { public void m(T x) { } public void m(String x) { } } class B extends A<String> implements J { }",
+        &[
+            Over("A.m", "J.m"),
+            Over("A.m'", "J.m"),
+            Found("B", "A.m'", "A.m'"),
+            Found("B", "A.m", "A.m"),
+            Found("B", "J.m", "A.m"),
+            Found("A", "J.m", "A.m"),
+        ],
+    ),
+    // Of two that the superclass counts, what a class declares comes before what an interface does.
+    (
+        "package l; interface I { void m(String x); } abstract class A<T> implements I { public void m(T x) { } } abstract class B extends A<String> { }",
+        &[Counted("A.m", 1, "I.m A.m"), Counted("B.m", 1, "A.m")],
+    ),
+    (
+        "package l; interface I<T> { void m(T x); } interface K extends I<String> { void m(String x); } abstract class A implements K { } class B extends A { public void m(String x) { } } class C extends B { }",
+        &[
+            Over("B.m", "I.m"),
+            Found("C", "I.m", "B.m"),
+            Found("A", "B.m", ""),
+        ],
+    ),
     (
         "package l; interface I<T> { void m(T x); } interface J { void m(String x); } class A implements I<String>, J { public void m(String x) { } }",
         &[
@@ -701,6 +764,15 @@ const GENERIC: [Case<'static>; 42] = [
     (
         "package l; class G<T> { } interface I { G<String> m(); } interface J { G<Object> m(); } interface K extends I, J { }",
         &[Refused(19, "K")],
+    ),
+    // The raw type fits both by an unchecked conversion, wherever it stands.
+    (
+        "package l; class G<T> { } interface I { G<String> m(); } interface J { G<Object> m(); } interface L { G m(); } interface M extends I, J, L { } interface N extends L, J, I { }",
+        &[Apart("L.m", "I.m"), Counted("N.m", 0, "I.m")],
+    ),
+    (
+        "package l; class G<T> { } interface I { G<String> m(); } interface J { G<Object> m(); } interface L { Object m(); } interface M extends L, I, J { }",
+        &[Refused(19, "M")],
     ),
     // By an unchecked conversion the raw A fits K<Object>, and not H<Object>, since H<String> is above it by way of B. javac takes it for H<Object> all the same.
     (
