@@ -293,15 +293,22 @@ class Program:
 
     def overridden(self, method):
         """The methods that an instance method overrides, also through a third."""
-        def overridden():
-            reached, open_ones = set(), [method]
-            while open_ones:
-                for each in self.overridden_at_once(open_ones.pop()):
-                    if each not in reached:
-                        reached.add(each)
-                        open_ones.append(each)
-            return reached
-        return self.once(overridden, method)
+        return self.overriding()[method]
+
+    def overriding(self):
+        """What each method overrides: at once, or through a third, where the two have one signature wherever both are seen."""
+        def overriding():
+            table = {each: set(self.overridden_at_once(each)) for of in self.types for each in of.methods()}
+            more = True
+            while more:
+                more = False
+                for lower, reached in table.items():
+                    further = {upper for third in reached for upper in table[third]} - reached - {lower}
+                    new = {upper for upper in further if self.agree_below(lower, upper)}
+                    reached |= new
+                    more = more or bool(new)
+            return table
+        return self.once(overriding)
 
     def overridden_at_once(self, method):
         met = [other for of in self.types for one, other in self.meetings(of)
@@ -697,8 +704,11 @@ def inherited_rules(program, of):
     members, inherited = program.members(of), program.inherited(of)
     if not of.is_interface and "abstract" not in of.mods and any(is_open(program, each, of) for each in members):
         yield "DR18"
-    for one, other in pairs(inherited):
-        if program.signature(one, of) == program.signature(other, of) and not one_fits(program, one, other, of):
+    alike = {}
+    for each in inherited:
+        alike.setdefault(program.signature(each, of), []).append(program.result(each, of))
+    for results in alike.values():
+        if not any(all(fits_result(program, one, other) for other in results) for one in results):
             yield "DR19"
     for one, other in pairs(members):
         if (program.erased_signature(one) == program.erased_signature(other)
@@ -723,8 +733,5 @@ def is_open(program, method, of):
     return not any(method in program.overridden(each) for each in closing)
 
 
-def one_fits(program, one, other, of):
-    left, right = program.result(one, of), program.result(other, of)
-    if left == right:
-        return True
-    return left[0] != "prim" and right[0] != "prim" and (program.fits(left, right) or program.fits(right, left))
+def fits_result(program, result, wanted):
+    return result == wanted or result[0] != "prim" and wanted[0] != "prim" and program.fits(result, wanted)
