@@ -9,7 +9,7 @@ use Rattle.class_world.specs.declared.world.JavaType.{JavaType}
 use Rattle.class_world.specs.declared.world.JavaType.TheVariants as ty
 use Rattle.class_world.specs.Subclasses.{IsDirectSuper}
 use Rattle.class_world.specs.Types.{substitute}
-use Rattle.class_world.specs.Signatures.{IsMethod, HasParams, HaveOneSignatureIn, AgreeBelow}
+use Rattle.class_world.specs.Signatures.{IsMethod, HaveOneSignatureIn, AgreeBelow}
 use Rattle.class_world.specs.Access.{IsInterface}
 use Rattle.class_world.specs.Inheritance.{DeclaresMethod, IsDirectlyAbove, IsPrivateMethod, Inherits, IsMemberMethod}
 
@@ -65,24 +65,23 @@ pub data IsFamily (w : World) (m : ℕ) : ℕ → Type 0 where
   above : {t k : ℕ} → IsFamily w m t → Overriding w t k → IsFamily w m k
   below : {t k : ℕ} → IsFamily w m t → Overriding w k t → IsFamily w m k
 
--- The parameter types of a method on an object of the class o: as o sees them, and as they are declared where they hold no type variable.
-abbrev pub ParamsOn : World → ℕ → ℕ → List JavaType → Type 0
-ParamsOn w o m ps =
-    HasParams w o m ps
-    ⊎ ((info : MethodInfo) × IsMethod w m info × (ps ≡ info.params) × ((args : List JavaType) → map (substitute args) info.params ≡ info.params))
+-- the parameter types hold no type variable, and are the same
+abbrev pub HaveOneParameterList : World → ℕ → ℕ → Type 0
+HaveOneParameterList w m k =
+    (i : MethodInfo) × (j : MethodInfo) × IsMethod w m i × IsMethod w k j × (i.params ≡ j.params) × ((args : List JavaType) → map (substitute args) i.params ≡ i.params)
 
--- on such an object two methods have the same parameter types
-abbrev pub HaveOneParameterList : World → ℕ → ℕ → ℕ → Type 0
-HaveOneParameterList w o m k = (ps : List JavaType) × ParamsOn w o m ps × ParamsOn w o k ps
+-- On an object of the class o the method k is seen with m's parameter types: it overrides a member of o that overrides m.
+abbrev pub OverridesForOn : World → ℕ → ℕ → ℕ → Type 0
+OverridesForOn w o k m = (t : ℕ) × IsMemberMethod w o t × Overriding w t m × Overriding w k t
 
 -- For an object of the class o, the class c declares k, of m's family, which is m, overrides m, or has m's parameter types.
 abbrev pub Answers : World → ℕ → ℕ → ℕ → ℕ → Type 0
-Answers w o m c k = IsClass w c × DeclaresMethod w c k × IsFamily w m k × ((k ≡ m) ⊎ Overriding w k m ⊎ HaveOneParameterList w o k m)
+Answers w o m c k =
+    IsClass w c × DeclaresMethod w c k × IsFamily w m k × ((k ≡ m) ⊎ Overriding w k m ⊎ HaveOneParameterList w k m ⊎ OverridesForOn w o k m)
 
--- The first class from c upwards, along superclasses, that declares an answer; where it declares more, m itself, and else the first of them.
+-- The first class from c upwards, along superclasses, that declares an answer; where it declares more, the first of them.
 pub data IsAnswer (w : World) (o m : ℕ) : ℕ → ℕ → Type 0 where
-  itself : {c : ℕ} → IsClass w c → DeclaresMethod w c m → IsAnswer w o m c m
-  here : {c k : ℕ} → (DeclaresMethod w c m → ⊥) → Answers w o m c k → ((j : ℕ) → j < k → Answers w o m c j → ⊥) → IsAnswer w o m c k
+  here : {c k : ℕ} → Answers w o m c k → ((j : ℕ) → j < k → Answers w o m c j → ⊥) → IsAnswer w o m c k
   further : {c s k : ℕ} → ((j : ℕ) → Answers w o m c j → ⊥) → IsSuperclass w c s → IsAnswer w o m s k → IsAnswer w o m c k
 
 -- methods that no object's class chooses
