@@ -704,11 +704,9 @@ def inherited_rules(program, of):
     members, inherited = program.members(of), program.inherited(of)
     if not of.is_interface and "abstract" not in of.mods and any(is_open(program, each, of) for each in members):
         yield "DR18"
-    alike = {}
-    for each in inherited:
-        alike.setdefault(program.signature(each, of), []).append(program.result(each, of))
-    for results in alike.values():
-        if not any(all(fits_result(program, one, other) for other in results) for one in results):
+    for one, other in pairs(inherited):
+        if (program.signature(one, of) == program.signature(other, of) and not one_fits(program, one, other, of)
+                and not is_overridden_by_one(program, one, other, inherited)):
             yield "DR19"
     for one, other in pairs(members):
         if (program.erased_signature(one) == program.erased_signature(other)
@@ -733,5 +731,13 @@ def is_open(program, method, of):
     return not any(method in program.overridden(each) for each in closing)
 
 
-def fits_result(program, result, wanted):
-    return result == wanted or result[0] != "prim" and wanted[0] != "prim" and program.fits(result, wanted)
+def one_fits(program, one, other, of):
+    left, right = program.result(one, of), program.result(other, of)
+    if left == right:
+        return True
+    return left[0] != "prim" and right[0] != "prim" and (program.fits(left, right) or program.fits(right, left))
+
+
+def is_overridden_by_one(program, one, other, inherited):
+    """Whether a method that a class declares, one of these, overrides both."""
+    return any(not each.owner.is_interface and {one, other} <= program.overridden(each) for each in inherited)

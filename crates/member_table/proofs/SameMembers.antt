@@ -14,10 +14,11 @@ use Rattle.class_world.specs.Inheritance.{IsDirectlyAbove, DeclaresMethod, IsPri
 use Rattle.class_world.specs.Inheritance as inheritance
 use Rattle.class_world.specs.Overriding.{IsInstanceMethod, AreInstanceMethods, IsClass, IsSuperclass, IsSuperinterface, InheritsBoth, Replaces, MeetIn, OverridesAtOnce, Overriding}
 use Rattle.class_world.specs.Overriding as overriding
+use Rattle.class_world.specs.Counted.{IsOfClass}
 use Rattle.seen_methods.specs.Seen.{HasResult}
 use Rattle.override_rules.specs.Rules.{Suits, BreaksResult, IsWeaker, IsUncheckedException, ThrowsMore, HasMod, AreOfOneKind, TakesPlace, OverrideBreaches}
 use Rattle.override_rules.specs.Rules as over
-use Rattle.inherited_rules.specs.Rules.{IsAbstractMethod, IsConcrete, LacksBody, FitsResult, IsInherited, FitsAll, HasUnlikeResults, HaveOneErasure, HasClash, InheritedBreaches}
+use Rattle.inherited_rules.specs.Rules.{IsAbstractMethod, IsConcrete, LacksBody, FitsResult, IsInherited, AreOverridden, HasUnlikeResults, HaveOneErasure, HasClash, InheritedBreaches}
 use Rattle.inherited_rules.specs.Rules as inherited_rules
 use Rattle.member_table.specs.Table.{MemberBreaches}
 
@@ -229,15 +230,28 @@ fits_result w v l (Some s) None h = absurd h
 inherited : (w v : World) → AreAlike w v → (c m : ℕ) → IsInherited w c m → IsInherited v c m
 inherited w v l c m h = (member w v l c m h.0, λ d. h.1 (declares v w (back w v l) c m d))
 
-fits_all : (w v : World) → AreAlike w v → (c k : ℕ) → FitsAll w c k → FitsAll v c k
-fits_all w v l c k h j is one r q at_k at_j =
-    let b = back w v l in
-    fits_result w v l r q (h j (inherited v w b c j is) (one_signature v w b c k j one) r q (result v w b c k r at_k) (result v w b c j q at_j))
+of_class : (w v : World) → AreAlike w v → (m : ℕ) → IsOfClass w m → IsOfClass v m
+of_class w v l m h = (h.0, declares w v l h.0 m h.1, is_class w v l h.0 h.2)
+
+overridden : (w v : World) → AreAlike w v → (c m k : ℕ) → AreOverridden w c m k → AreOverridden v c m k
+overridden w v l c m k h = (h.0, inherited w v l c h.0 h.1, of_class w v l h.0 h.2, overrides w v l h.0 m h.3, overrides w v l h.0 k h.4)
 
 unlike_results : (w v : World) → AreAlike w v → (c : ℕ) → HasUnlikeResults w c → HasUnlikeResults v c
 unlike_results w v l c h =
-    let b = back w v l in
-    (h.0, inherited w v l c h.0 h.1, λ k is one all. h.2 k (inherited v w b c k is) (one_signature v w b c h.0 k one) (fits_all v w b c k all))
+    let b = back w v l in (
+      h.0,
+      h.1,
+      inherited w v l c h.0 h.2,
+      inherited w v l c h.1 h.3,
+      one_signature w v l c h.0 h.1 h.4,
+      λ over_both. h.5 (overridden v w b c h.0 h.1 over_both),
+      h.6,
+      h.7,
+      result w v l c h.0 h.6 h.8,
+      result w v l c h.1 h.7 h.9,
+      λ f. h.10 (fits_result v w b h.6 h.7 f),
+      λ f. h.11 (fits_result v w b h.7 h.6 f),
+    )
 
 one_erasure : (w v : World) → AreAlike w v → (m k : ℕ) → HaveOneErasure w m k → HaveOneErasure v m k
 one_erasure w v l m k h = (h.0, h.1, method w v l m h.0 h.2, method w v l k h.1 h.3, h.4, h.5)

@@ -487,11 +487,7 @@ const MEMBER_RULES: [Case<'static>; 26] = [
         "interface I { Object m(); } interface J { String m(); } interface K extends I, J { }",
         &[Apart("J.m", "I.m")],
     ),
-    // The result of a third fits both.
-    (
-        "interface X { } interface Y { } class R implements X, Y { } interface I { X m(); } interface J { Y m(); } interface L { R m(); } interface K extends I, J, L { }",
-        &[Apart("L.m", "I.m"), Counted("K.m", 0, "I.m")],
-    ),
+    // A method of a class overrides both.
     (
         "interface X { } interface Y { } class R implements X, Y { } interface I { X m(); } interface J { Y m(); } class S { public R m() { return null; } } class C extends S implements I { } class E extends C implements J { }",
         &[
@@ -500,13 +496,17 @@ const MEMBER_RULES: [Case<'static>; 26] = [
             Counted("E.m", 0, "S.m"),
         ],
     ),
-    // That of a third fits one of two alone.
     (
-        "interface X { } interface Y { } class Z implements X { } interface I { X m(); } interface J { Y m(); } interface L { Z m(); } interface K extends I, J, L { }",
+        "interface X { } interface Y { } class R implements X, Y { } interface I { X m(); } interface J { Y m(); } abstract class S { public abstract R m(); } abstract class C extends S implements I, J { } class E extends C { public R m() { return null; } }",
+        &[Over("S.m", "I.m"), Over("E.m", "J.m")],
+    ),
+    // The third is an interface's. javac takes it, since its result fits both.
+    (
+        "interface X { } interface Y { } class R implements X, Y { } interface I { X m(); } interface J { Y m(); } interface L { R m(); } interface K extends I, J, L { }",
         &[Refused(19, "K")],
     ),
     (
-        "interface X { } interface Y { } interface Z { } class R implements X, Y { } class P extends R implements Z { } interface I { X m(); } interface J { Y m(); } interface L { Z m(); } interface N { P m(); } interface K extends I, J, L { } interface H extends I, J, L, N { }",
+        "interface X { } interface Y { } class Z implements X { } interface I { X m(); } interface J { Y m(); } interface L { Z m(); } interface K extends I, J, L { }",
         &[Refused(19, "K")],
     ),
     // Two rules at one class.
@@ -574,7 +574,7 @@ const MEMBER_RULES: [Case<'static>; 26] = [
 ];
 
 /// Library files with generic types, whose names are those of the package `l`.
-const GENERIC: [Case<'static>; 48] = [
+const GENERIC: [Case<'static>; 49] = [
     (
         "package l; class A<T> { void m(T x) { } } class B extends A<String> { void m(String x) { } }",
         &[
@@ -674,7 +674,7 @@ const GENERIC: [Case<'static>; 48] = [
             Grouped("A.m", "A.m A.m'"),
         ],
     ),
-    // X takes the overriding of K's method from C's, and not from F's: it overrides one that overrides K's. What runs on a D is what D sees with K's parameter types.
+    // X takes the overriding of K's method from C's, and not from F's: it overrides one that overrides K's. A D runs C's all the same: it overrides J's, which D has and which overrides K's.
     (
         "package l; interface K<T> { void m(T x); } interface J extends K<String> { void m(String x); } class C { public void m(String x) { } } class D extends C implements J { } abstract class X extends C implements K<Exception> { } class F extends C { public void m(String x) { } }",
         &[
@@ -690,7 +690,7 @@ const GENERIC: [Case<'static>; 48] = [
             Found("F", "K.m", "F.m"),
         ],
     ),
-    // A class that declares the method itself runs it, although another has its parameter types there. javac refuses B, for two methods with a body.
+    // Two methods with a body have one signature in B, and are tied by J's; javac refuses B for them. Each runs where it is called.
     (
         "package l; interface J { void m(String x); } class A<T> { public void m(T x) { } public void m(String x) { } } class B extends A<String> implements J { }",
         &[
@@ -699,7 +699,15 @@ const GENERIC: [Case<'static>; 48] = [
             Found("B", "A.m'", "A.m'"),
             Found("B", "A.m", "A.m"),
             Found("B", "J.m", "A.m"),
-            Found("A", "J.m", "A.m"),
+        ],
+    ),
+    (
+        "package l; interface K { Object m(String x); } class A<T> { public String m(T x) { return null; } } class C<T> extends A<T> { public Object m(String x) { return null; } } class E extends C<String> implements K { }",
+        &[
+            Tied("A.m", "K.m A.m C.m"),
+            Found("E", "A.m", "A.m"),
+            Found("E", "C.m", "C.m"),
+            Found("E", "K.m", "C.m"),
         ],
     ),
     // Of two that the superclass counts, what a class declares comes before what an interface does.
@@ -765,14 +773,14 @@ const GENERIC: [Case<'static>; 48] = [
         "package l; class G<T> { } interface I { G<String> m(); } interface J { G<Object> m(); } interface K extends I, J { }",
         &[Refused(19, "K")],
     ),
-    // The raw type fits both by an unchecked conversion, wherever it stands.
+    // A class's method overrides both; beside D, which takes overriding I's from it, one alone. javac takes that too.
     (
-        "package l; class G<T> { } interface I { G<String> m(); } interface J { G<Object> m(); } interface L { G m(); } interface M extends I, J, L { } interface N extends L, J, I { }",
-        &[Apart("L.m", "I.m"), Counted("N.m", 0, "I.m")],
+        "package l; interface X { } interface Y { } class R implements X, Y { } interface I<T> { X m(T x); } interface J { Y m(String x); } class S { public R m(String x) { return null; } } abstract class C extends S implements I<String> { } abstract class E extends C implements J { }",
+        &[Over("S.m", "I.m"), Over("S.m", "J.m")],
     ),
     (
-        "package l; class G<T> { } interface I { G<String> m(); } interface J { G<Object> m(); } interface L { Object m(); } interface M extends L, I, J { }",
-        &[Refused(19, "M")],
+        "package l; interface X { } interface Y { } class R implements X, Y { } interface I<T> { X m(T x); } interface J { Y m(String x); } class S { public R m(String x) { return null; } } abstract class C extends S implements I<String> { } abstract class D extends S implements I<Exception> { } abstract class E extends C implements J { }",
+        &[Refused(19, "E")],
     ),
     // By an unchecked conversion the raw A fits K<Object>, and not H<Object>, since H<String> is above it by way of B. javac takes it for H<Object> all the same.
     (
