@@ -25,6 +25,14 @@ pub record IsStep (old new : Rows) (added : Bool) : Type 0 where
   pub gains : added ≡ true → Gains old new
   pub same : added ≡ false → new ≡ old
 
+-- the row of m has k, unless they are one, or differ in a type below both
+abbrev pub HasThird : World → ℕ → Rows → ℕ → Type 0
+HasThird w m table k = (m ≡ k → ⊥) → AgreeBelow w m k → Has table m k
+
+-- the row of m has all that m overrides through what the row has
+abbrev pub IsClosed : World → Rows → ℕ → Type 0
+IsClosed w table m = (t : ℕ) → Has table m t → (k : ℕ) → Has table t k → HasThird w m table k
+
 -- the row of m has t, and all that m overrides through t
 abbrev pub IsFollowed : World → Rows → ℕ → ℕ → Type 0
 IsFollowed w table m t = Has table m t × ((k : ℕ) → Has table t k → (m ≡ k → ⊥) → AgreeBelow w m k → Has table m k)
