@@ -16,7 +16,7 @@ use class_world::World;
 use java_tree::NoMemory;
 use std::alloc::Global;
 
-/// Adds what each method overrides: by rounds over the links, which give what a first step at once leads to; and where they left a third out, by passes over all rows, since two longer steps may lead there.
+/// Adds what each method overrides: by rounds over the links, whose first step is one at once; and where these left out a third that differs from a link's lower method in a type below both, by passes over all pairs, since a method further below may override it by two longer steps.
 pub(crate) fn add_all(
     alloc: Global,
     w: &World,
@@ -51,7 +51,7 @@ fn lacks_third(links: &[Link], table: &Table) -> bool
 
 /// Adds what each method overrides through any other, in passes over all rows, until a pass adds nothing.
 ///
-/// A pass lists one row after the other, and takes for each pair in them the time of the nodes that the two rows do not share, and an `agree_below` for each method that the lower one lacks.
+/// A pass lists one row after the other, and takes for each pair in it the time of the nodes that the two rows do not share, and an `agree_below` for each method that the lower one lacks.
 fn close_all(alloc: Global, w: &World, count: u32, table: &mut Table) -> Result<(), NoMemory>
     requires sound { IsSound w.now }
     requires count { count ≡ length w.now.methods }

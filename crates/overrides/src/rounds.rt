@@ -221,7 +221,7 @@ fn add_third(alloc: Global, w: &World, m: u32, k: u32, table: &mut Table) -> Res
     ensures table { OnOk result (IsDerived w.now table.new) }
     ensures maps { OnOk result (KeepsMaps table.old.maps table.new.maps) }
     ensures step { IfOk result (IsStep table.old table.new) }
-    ensures has { OnOk result ((m ≡ k → ⊥) → AgreeBelow w.now m k → Has table.new m k) }
+    ensures has { OnOk result (HasThird w.now m table.new k) }
 {
     if m == k || !agree_below(alloc, w, m, k)? {
         return Ok(false);
