@@ -28,7 +28,7 @@ at_once_within {w = w} {m = m} {k = k} h = go h
 
 pub overriding_within : {w : World} {m k : ℕ} → Overriding w m k → (m < length w.methods) × (k < length w.methods)
 overriding_within (by.at_once e) = at_once_within e
-overriding_within (by.through e h other agree) = ((at_once_within e).0, (overriding_within h).1)
+overriding_within (by.through g h other agree) = ((overriding_within g).0, (overriding_within h).1)
 
 module _ (w : World) (sound : IsSound w) where
   replaced_agrees : AreScoped w → (c m t : ℕ) → Replaces w c m t → AgreeBelow w m t
@@ -63,7 +63,7 @@ module _ (w : World) (sound : IsSound w) where
   overriding_agrees : AreScoped w → (m k : ℕ) → Overriding w m k → AgreeBelow w m k
   overriding_agrees scoped m k (by.at_once (by.declared {c = c} r are)) = replaced_agrees scoped c m k r
   overriding_agrees scoped m k (by.at_once (by.inherited r are agree)) = agree
-  overriding_agrees scoped m k (by.through e h other agree) = agree
+  overriding_agrees scoped m k (by.through g h other agree) = agree
 
   pub declared_free : AreScoped w → (c m t : ℕ) → Replaces w c m t → IsFree w m t
   declared_free scoped c m t r k h = agree_through m t k (declared_below c m t r) (replaced_agrees scoped c m t r) (overriding_agrees scoped t k h)

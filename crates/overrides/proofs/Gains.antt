@@ -1,18 +1,18 @@
 -- Steps that add to the rows of a table.
 use Rattle.std.proofs.Common.{◌≡◌, ℕ, ◌+◌, ◌<◌, ◌≤◌, List, Bool, true, false, Option, Some, None, ◌⊎◌, inl, inr, refl, sym, ap, ◌∙◌, subst, length, arith}
-use Rattle.std.specs.Prelude.{◌==◌, slice_get}
+use Rattle.std.specs.Prelude.{◌==◌, ◌||◌, slice_get}
 use Rattle.std.specs.List.{Contains}
 use Rattle.std.specs.Option.{option_or}
 use Rattle.std.proofs.lemmas.Bool.{cond-false, cond-true, eq-eqb, ne_eqb}
+use Rattle.std.proofs.lemmas.Option.{slice_get_within}
 use Rattle.class_world.specs.declared.world.World.{World}
-use Rattle.class_world.specs.Signatures.{AgreeBelow}
 use Rattle.class_world.specs.Overriding as by
 use Rattle.class_world.specs.Overriding.{OverridesAtOnce, Overriding}
 use Rattle.class_world.proofs.Words.{same_or_other}
 use Rattle.overrides.specs.Tables.{Rows, IsOfSize, AreOfOneSize, IsUnited, Has, HasRow, Lacks, given, value_at}
 use Rattle.overrides.specs.AtOnce.{IsFree}
-use Rattle.overrides.specs.Rounds.{Grows, IsDerived, IsStep, IsFollowed, IsJoined, HoldsOverriding}
-use Rattle.overrides.proofs.Places.{items_more, items_all}
+use Rattle.overrides.specs.Rounds.{Grows, IsDerived, IsStep, IsJoined}
+use Rattle.overrides.proofs.Places.{contains_at, numbers_more}
 use Rattle.overrides.proofs.Belows.{overriding_within}
 
 -- ---- steps one after another
@@ -31,6 +31,12 @@ step_on {a = a} {b = b} {c = c} first second =
 
 pub step_still : {a b c : Rows} {x : Bool} → IsStep a b x → IsStep b c false → IsStep a c x
 step_still {a = a} {b = b} {c = c} {x = x} first second = subst (λ t. IsStep a t x) (sym (second.same refl)) first
+
+pub step_or : {a b c : Rows} (x y : Bool) → IsStep a b x → IsStep b c y → IsStep a c (x || y)
+step_or true true first second = step_on first second
+step_or true false first second = step_still first second
+step_or false true first second = step_on first second
+step_or false false first second = step_still first second
 
 pub same_size : {n : ℕ} {old new : Rows} → IsOfSize n old → IsOfSize n new → AreOfOneSize old new
 same_size old new = record { rows = new.rows ∙ sym old.rows; keys = new.keys ∙ sym old.keys }
@@ -96,7 +102,7 @@ module _ (old new : Rows) (m t : ℕ) (both : IsUnited old new m t) where
         | inl itself ↦ let never : None ≡ Some h.0 = sym (cond-true (b == m) None (value_at old t b) (eq-eqb b m itself)) ∙ above in absurd (cc never)
         | inr other ↦
             let up = derived.sound t b (h.0, sym (cond-false (b == m) None (value_at old t b) (ne_eqb b m other)) ∙ above) in
-            by.through edge up (λ e. other (sym e)) (free b up)
+            by.through (by.at_once edge) up (λ e. other (sym e)) (free b up)
       ]
     ]
   ]
@@ -131,29 +137,20 @@ derived_row w t m k derived up = let lt = (overriding_within up).0 in omega (ari
 pub derived_key : (w : World) (t : Rows) (m k : ℕ) → IsDerived w t → Overriding w m k → k < t.maps.keys
 derived_key w t m k derived up = let lt = (overriding_within up).1 in omega (arith, lt, derived.size.keys)
 
--- rows in which each pair is followed have all
-module _ (w : World) (t : Rows) (followed : (m x : ℕ) → OverridesAtOnce w m x → IsFollowed w t m x) where
-  has_all : {m k : ℕ} → Overriding w m k → Has t m k
-  has_all (by.at_once {m = m} {k = k} edge) = (followed m k edge).0
-  has_all (by.through {m = m} {t = x} {k = k} edge up other agree) = (followed m x edge).1 k (has_all up) other agree
+-- ---- a pass over places, each of which may add to the rows: where nothing was added, all is as it was, and what is wanted of a place holds of each so far
 
-  pub followed_holds : IsDerived w t → HoldsOverriding w t
-  followed_holds derived m k = (derived.sound m k, has_all)
-
--- ---- a pass over items, each of which may add to the rows: where nothing was added, all is as it was, and what is wanted of an item holds of each so far
-
-pub record IsPass {A : Type 0} (w : World) (start now : Rows) (added : Bool) (P : Rows → A → Type 0) (items : List A) (i : ℕ) : Type 0 where
+pub record IsPass (w : World) (start now : Rows) (added : Bool) (P : Rows → ℕ → Type 0) (i : ℕ) : Type 0 where
   pub derived : IsDerived w now
   pub step : IsStep start now added
-  pub done : added ≡ false → (j : ℕ) (x : A) → j < i → slice_get items j ≡ Some x → P now x
+  pub done : added ≡ false → (j : ℕ) → j < i → P now j
 
-module _ {A : Type 0} (w : World) (start : Rows) (P : Rows → A → Type 0) (items : List A) where
-  pub pass_begins : (now : Rows) (added : Bool) → IsDerived w now → IsStep start now added → IsPass w start now added P items 0
-  pass_begins now added derived step = record { derived = derived; step = step; done = λ e j x lt. absurd (omega (arith, lt)) }
+module _ (w : World) (start : Rows) (P : Rows → ℕ → Type 0) where
+  pub pass_begins : (now : Rows) (added : Bool) → IsDerived w now → IsStep start now added → IsPass w start now added P 0
+  pass_begins now added derived step = record { derived = derived; step = step; done = λ e j lt. absurd (omega (arith, lt)) }
 
-  module _ (now : Rows) (added : Bool) (i : ℕ) (x : A) (pass : IsPass w start now added P items i) (at : slice_get items i ≡ Some x) where
-    -- the item added something
-    pub pass_adds : (new : Rows) (r more : Bool) → IsDerived w new → IsStep now new r → r ≡ true → more ≡ true → IsPass w start new more P items (i + 1)
+  module _ (now : Rows) (added : Bool) (i : ℕ) (pass : IsPass w start now added P i) where
+    -- the place added something
+    pub pass_adds : (new : Rows) (r more : Bool) → IsDerived w new → IsStep now new r → r ≡ true → more ≡ true → IsPass w start new more P (i + 1)
     pass_adds new r more derived step told is = record {
       derived = derived;
       step = subst (IsStep start new) (sym is) (step_on pass.step (subst (IsStep now new) told step));
@@ -161,12 +158,25 @@ module _ {A : Type 0} (w : World) (start : Rows) (P : Rows → A → Type 0) (it
     }
 
     -- it added nothing
-    pub pass_stays : (new : Rows) (r more : Bool) → IsDerived w new → IsStep now new r → (r ≡ false → P new x) → r ≡ false → more ≡ added → IsPass w start new more P items (i + 1)
+    pub pass_stays : (new : Rows) (r more : Bool) → IsDerived w new → IsStep now new r → (r ≡ false → P new i) → r ≡ false → more ≡ added → IsPass w start new more P (i + 1)
     pass_stays new r more derived step here told is = record {
       derived = derived;
       step = subst (IsStep start new) (sym is) (step_still pass.step (subst (IsStep now new) told step));
-      done = λ e. items_more (P new) items i x (λ j y lt is_y. subst (λ t. P t y) (sym (step.same told)) (pass.done (sym is ∙ e) j y lt is_y)) at (here told);
+      done = λ e. numbers_more (P new) i (λ j lt. subst (λ t. P t j) (sym (step.same told)) (pass.done (sym is ∙ e) j lt)) (here told);
     }
 
-  pub pass_ends : (now : Rows) (added : Bool) (i : ℕ) → IsPass w start now added P items i → length items ≤ i → added ≡ false → (x : A) → Contains items x → P now x
-  pass_ends now added i pass done e = items_all (P now) items i (pass.done e) done
+-- what is wanted of the item at a place
+abbrev pub AtPlace : {A : Type 0} → List A → (Rows → A → Type 0) → Rows → ℕ → Type 0
+AtPlace {A = A} items P t j = (x : A) → slice_get items j ≡ Some x → P t x
+
+pub at_place : {A : Type 0} (items : List A) (P : Rows → A → Type 0) (t : Rows) (i : ℕ) (x : A) → slice_get items i ≡ Some x → P t x → AtPlace items P t i
+at_place items P t i x at here y is =
+    let one : Some x ≡ Some y = sym at ∙ is in
+    let same : x ≡ y = cc one in
+    subst (P t) same here
+
+pub at_places : {A : Type 0} (items : List A) (P : Rows → A → Type 0) (t : Rows) (i : ℕ) → ((j : ℕ) → j < i → AtPlace items P t j) → length items ≤ i → (x : A) → Contains items x → P t x
+at_places items P t i before done x has =
+    let at = contains_at items x has in
+    let lt = slice_get_within items at.0 x at.1 in
+    before at.0 (omega (arith, lt, done)) x at.1

@@ -1,14 +1,13 @@
 -- What a row lacks of another.
-use Rattle.std.proofs.Common.{◌≡◌, ℕ, ◌+◌, ◌-◌, ◌<◌, ◌≤◌, true, false, Option, Some, None, inl, inr, refl, sym, ap, ◌∙◌, subst, arith}
+use Rattle.std.proofs.Common.{◌≡◌, ℕ, ◌+◌, ◌-◌, ◌<◌, ◌≤◌, true, false, Option, Some, None, inl, inr, refl, sym, ◌∙◌, subst, arith}
 use Rattle.std.specs.Prelude.{is_some}
 use Rattle.std.proofs.lemmas.Bool.{cases_lt}
 use Rattle.shared_maps.specs.Trees.{IsFirst}
 use Rattle.shared_maps.specs.Maps.{IsLacking}
 use Rattle.shared_maps.proofs.Lacking.{only_right_as}
 use Rattle.class_world.specs.declared.world.World.{World}
-use Rattle.class_world.specs.Signatures.{AgreeBelow}
 use Rattle.overrides.specs.Tables.{Rows, Has, HasRow, Lacks, value_at}
-use Rattle.overrides.specs.Rounds.{Grows}
+use Rattle.overrides.specs.Rounds.{Grows, HasThird}
 use Rattle.overrides.proofs.Gaps.{has_within}
 
 -- rows by the maps that they are
@@ -73,10 +72,6 @@ module _ (table : Rows) (m t : ℕ) where
   }
 
 -- ---- keys taken one by one
-
--- what is wanted of a key of what t overrides
-abbrev pub HasThird : World → ℕ → Rows → ℕ → Type 0
-HasThird w m table k = (m ≡ k → ⊥) → AgreeBelow w m k → Has table m k
 
 -- what is wanted of the keys that the row of t had at first, so far
 abbrev pub HasThirds : World → ℕ → ℕ → Rows → Rows → ℕ → Type 0

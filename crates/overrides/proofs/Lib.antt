@@ -8,5 +8,6 @@ pub mod Linked
 pub mod Taken
 pub mod Gaps
 pub mod Lacking
+pub mod Chains
 pub mod Marks
 pub mod Groups

@@ -110,7 +110,7 @@ merging_on w old new m k merging merged edge = record {
 module _ (w : World) (labels : List ℕ) (all : (m t : ℕ) → OverridesAtOnce w m t → AreAlike labels m t) where
   overriding_alike : {m k : ℕ} → Overriding w m k → AreAlike labels m k
   overriding_alike (by.at_once {m = m} {k = k} edge) = all m k edge
-  overriding_alike (by.through {m = m} {t = t} {k = k} edge h other agree) = alike_on labels m t k (all m t edge) (overriding_alike h)
+  overriding_alike (by.through {m = m} {t = t} {k = k} g h other agree) = alike_on labels m t k (overriding_alike g) (overriding_alike h)
 
   family_alike : {m k : ℕ} → m < length labels → IsFamily w m k → AreAlike labels m k
   family_alike {m = m} lt by.itself = alike_itself labels m lt

@@ -46,8 +46,8 @@ module _ (w : World) where
 
   overriding_like : (m k : ℕ) → IsPlain w m → Overriding w m k → IsLikeIt m k
   overriding_like m k plain (by.at_once e) = at_once_like m k plain e
-  overriding_like m k plain (by.through {t = t} e h other agree) =
-      let first = at_once_like m t plain e in
+  overriding_like m k plain (by.through {t = t} g h other agree) =
+      let first = overriding_like m t plain g in
       like_on m t k first (overriding_like t k (plain_on m t plain first) h)
 
   pub plain_free : (c m t : ℕ) → IsPlain w m → MeetIn w c m t → IsFree w m t

@@ -1,16 +1,13 @@
 -- Rows that were taken over, while the table grows.
 use Rattle.std.proofs.Common.{◌≡◌, ℕ, zero, suc, ◌<◌, List, Option, Some, None, ◌⊎◌, inl, inr, refl, sym, ap, ◌∙◌, subst, length, arith}
 use Rattle.std.specs.Prelude.{slice_get, slice_set, replicate}
-use Rattle.std.specs.List.{Contains}
 use Rattle.std.proofs.lemmas.Option.{slice_get_within}
 use Rattle.shared_maps.specs.declared.Map.{Map}
 use Rattle.shared_maps.specs.Maps.{IsMap, KeepsMaps, value_in}
 use Rattle.class_world.specs.declared.world.World.{World}
-use Rattle.class_world.specs.Overriding.{OverridesAtOnce}
 use Rattle.class_world.proofs.Words.{set_here, set_there, same_or_other, length_set}
 use Rattle.overrides.specs.declared.links.Link.{Link}
 use Rattle.overrides.specs.Tables.{Rows, value_at}
-use Rattle.overrides.specs.Links.{AreAllLinks}
 use Rattle.overrides.specs.Rounds.{Grows, IsFollowed, IsJoined, IsTaken, AreTaken}
 
 pub taken_on : (w : World) (old new : Rows) (m t : ℕ) (map : Map) → IsTaken w old m t map → Grows old new → KeepsMaps old.maps new.maps → IsTaken w new m t map
@@ -64,9 +61,3 @@ taken_next w links taken old new i x row before grows kept at here j y o at_j is
         let is : row ≡ map = cc both in
         subst (λ (z : Link). IsTaken w new z.lower z.upper map) alike (subst (IsTaken w new x.lower x.upper) is here)
     by (inr other) = taken_on w old new y.lower y.upper map (before j y o at_j (sym (set_there taken i j (Some row) other) ∙ is_o) map e) grows kept
-
--- where all links are followed, all pairs are
-pub links_followed : (w : World) (links : List Link) (t : Rows) → AreAllLinks w links → ((x : Link) → Contains links x → IsFollowed w t x.lower x.upper) → (m u : ℕ) → OverridesAtOnce w m u → IsFollowed w t m u
-links_followed w links t all followed m u edge =
-    let x = all.all m u edge in
-    subst (λ i. IsFollowed w t i u) x.2 (subst (λ j. IsFollowed w t x.0.lower j) x.3 (followed x.0 x.1))

@@ -25,20 +25,28 @@ pub record IsStep (old new : Rows) (added : Bool) : Type 0 where
   pub gains : added ≡ true → Gains old new
   pub same : added ≡ false → new ≡ old
 
+-- the row of m has k, unless they are one, or differ in a type below both
+abbrev pub HasThird : World → ℕ → Rows → ℕ → Type 0
+HasThird w m table k = (m ≡ k → ⊥) → AgreeBelow w m k → Has table m k
+
+-- the row of m has all that m overrides through what the row has
+abbrev pub IsClosed : World → Rows → ℕ → Type 0
+IsClosed w table m = (t : ℕ) → Has table m t → (k : ℕ) → Has table t k → HasThird w m table k
+
 -- the row of m has t, and all that m overrides through t
 abbrev pub IsFollowed : World → Rows → ℕ → ℕ → Type 0
-IsFollowed w table m t = Has table m t × ((k : ℕ) → Has table t k → (m ≡ k → ⊥) → AgreeBelow w m k → Has table m k)
+IsFollowed w table m t = Has table m t × ((k : ℕ) → Has table t k → HasThird w m table k)
 
 -- the row of m has t now, and all that m overrides through t, by the row that t had
 pub record IsJoined (w : World) (old new : Rows) (m t : ℕ) : Type 0 where
   pub has : Has new m t
-  pub all : (k : ℕ) → Has old t k → (m ≡ k → ⊥) → AgreeBelow w m k → Has new m k
+  pub all : (k : ℕ) → Has old t k → HasThird w m new k
 
 -- the row of m has t, and all that m overrides through t, by a map that was the row of t
 pub record IsTaken (w : World) (table : Rows) (m t : ℕ) (map : Map) : Type 0 where
   pub known : IsMap table.maps map
   pub has : Has table m t
-  pub all : (k v : ℕ) → value_in table.maps map k ≡ Some v → (m ≡ k → ⊥) → AgreeBelow w m k → Has table m k
+  pub all : (k v : ℕ) → value_in table.maps map k ≡ Some v → HasThird w m table k
 
 -- so by the map that stands beside a link, if there is one
 abbrev pub HasTaken : World → Rows → Link → Option Map → Type 0

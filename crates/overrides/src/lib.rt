@@ -11,6 +11,7 @@ ghost use Rattle.method_ties.specs.Ties.{HoldsTies};
 ghost use Rattle.overrides.specs.Overrides.{HoldsOverrides};
 
 mod at_once;
+mod closed;
 mod families;
 mod links;
 mod listed;
@@ -22,13 +23,13 @@ mod scopes;
 
 use at_once::all_at_once;
 use class_world::World;
+use closed::add_all;
 use families::labels_of;
 use java_tree::{Items, NoMemory};
 use links::all_links;
 use listed::lists_of;
 use method_ties::MethodTies;
 use order::in_order;
-use rounds::add_all;
 use rows::Table;
 use std::alloc::Global;
 
@@ -43,7 +44,7 @@ pub struct Overrides {
 impl Overrides {
     /// What the methods of a sound world override. `NoMemory` also where it has 2^32 methods or types.
     ///
-    /// Takes `agree_below` once for each pair that meets, and two rounds over the pairs of which a method overrides the other at once, or three where circles stand among them; each look-up is one at as many nodes as method numbers have bits. The row of what a method overrides is united with that of each one that it overrides at once, in the time and memory of the nodes that the two do not share: so a chain takes time and memory for its methods, and so do the types below several chains. Where the row has that one already, the nodes that the two do not share are first looked through for a method that it lacks, up to the first such. Where type variables stand in parameter types, rows are not united: the nodes that the two do not share are gone through, and each method that the lower row lacks may cost an `agree_below`, and is added by itself.
+    /// Takes `agree_below` once for each pair that meets, and two rounds over the pairs of which a method overrides the other at once, or three where circles stand among them; each look-up is one at as many nodes as method numbers have bits. The row of what a method overrides is united with that of each one that it overrides at once, in the time and memory of the nodes that the two do not share: so a chain takes time and memory for its methods, and so do the types below several chains. Where the row has that one already, the nodes that the two do not share are first looked through for a method that it lacks, up to the first such. Where type variables stand in parameter types, rows are not united: the nodes that the two do not share are gone through, once more at the end, and each method that the lower row lacks may cost an `agree_below`, and is added by itself. Where such a row lacks one at the end, since the two methods differ in a type below both, passes over all pairs of the table follow, until one adds nothing: each takes, for each pair, the time of the nodes that the two rows do not share, and an `agree_below` for each method that the lower one lacks; and the memory of one row's list, beside that of what it adds.
     pub fn of(alloc: Global, w: &World, ties: &MethodTies) -> Result<Overrides, NoMemory>
         requires sound { IsSound w.now }
         requires ties { HoldsTies w.now ties.now }
@@ -56,7 +57,7 @@ impl Overrides {
         let order = in_order(alloc, w, count)?;
         let links = all_links(alloc, w, &ties, order.as_slice())?;
         let mut table = Table::new(alloc, count)?;
-        add_all(alloc, w, links.as_slice(), &mut table)?;
+        add_all(alloc, w, links.as_slice(), count, &mut table)?;
         let labels = labels_of(alloc, w, &ties, count)?;
         let families = lists_of(alloc, labels.as_slice())?;
         Ok(Overrides {

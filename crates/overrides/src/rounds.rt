@@ -9,8 +9,8 @@ ghost use Rattle.class_world.specs.Overriding.{OverridesAtOnce, Overriding};
 ghost use Rattle.overrides.specs.declared.links.Link as pairs;
 ghost use Rattle.overrides.specs.Tables.{AreOfOneSize, Has, HasRow, Lacks};
 ghost use Rattle.overrides.specs.AtOnce.{IsFree};
-ghost use Rattle.overrides.specs.Links.{AreAllLinks, AreLinks, IsLink};
-ghost use Rattle.overrides.specs.Rounds.{AreTaken, HasTaken, HoldsOverriding, IsDerived, IsFollowed, IsJoined, IsStep, IsTaken};
+ghost use Rattle.overrides.specs.Links.{AreLinks, IsLink};
+ghost use Rattle.overrides.specs.Rounds.{AreTaken, HasTaken, HasThird, IsDerived, IsFollowed, IsJoined, IsStep, IsTaken};
 
 use crate::links::Link;
 use crate::rows::Table;
@@ -20,19 +20,20 @@ use seen_methods::agree_below;
 use shared_maps::Map;
 use std::alloc::Global;
 
-/// Adds what each method overrides, in rounds over all links, until a round adds nothing.
+/// Adds what each method overrides through one that it overrides at once, in rounds over all links, until a round adds nothing.
 ///
 /// Beside each link stands the upper method's row as it was when all of it was taken over. A round passes over the links whose row is still that one, and where it finds no other it was the last. Where upper methods come first, a second round adds only what circles bring, as over methods of Object that interfaces declare again; and it finds a chain as it was, in the time of its links.
-pub(crate) fn add_all(
+pub(crate) fn add_rounds(
     alloc: Global,
     w: &World,
     links: &[Link],
     table: &mut Table,
 ) -> Result<(), NoMemory>
     requires sound { IsSound w.now }
-    requires links { AreAllLinks w.now links.now }
+    requires links { AreLinks w.now links.now }
     requires table { IsDerived w.now table.old }
-    ensures { OnOk result (HoldsOverriding w.now table.new) }
+    ensures table { OnOk result (IsDerived w.now table.new) }
+    ensures followed { OnOk result ((x : pairs.Link) → Contains links.now x → IsFollowed w.now table.new x.lower x.upper) }
 {
     let mut taken = vec![in alloc; None; links.len()]?;
     'rounds: loop {
@@ -109,7 +110,7 @@ fn is_map(taken: Option<Map>, row: Map) -> bool
 
 /// Adds what the method `m` overrides through `t`, which it overrides at once.
 ///
-/// Where the pair is free, that is all that `t` overrides, and the two rows are united. Else each key that the row of `t` has and that of `m` lacks is taken by itself, with an `agree_below`.
+/// Where the pair is free, that is all that `t` overrides, and the two rows are united. Else the keys that the row of `m` lacks are taken one by one.
 fn add_through(
     alloc: Global,
     w: &World,
@@ -130,7 +131,28 @@ fn add_through(
     if free {
         return add_row(w, m, t, table);
     }
-    let mut added = add(m, t, table)?;
+    let added = add(m, t, table)?;
+    let more = add_thirds(alloc, w, m, t, table)?;
+    Ok(added || more)
+}
+
+/// Adds what the method `m` overrides through `t`, which it overrides: each key that the row of `t` has and that of `m` lacks is taken by itself, with an `agree_below`.
+pub(crate) fn add_thirds(
+    alloc: Global,
+    w: &World,
+    m: u32,
+    t: u32,
+    table: &mut Table,
+) -> Result<bool, NoMemory>
+    requires sound { IsSound w.now }
+    requires overrides { Overriding w.now m t }
+    requires table { IsDerived w.now table.old }
+    ensures table { OnOk result (IsDerived w.now table.new) }
+    ensures maps { OnOk result (KeepsMaps table.old.maps table.new.maps) }
+    ensures step { IfOk result (IsStep table.old table.new) }
+    ensures thirds { OnOk result ((k : ℕ) → Has table.old t k → HasThird w.now m table.new k) }
+{
+    let mut added = false;
     let mut from = 0;
     'lacking: while let Some(k) = table.first_lacking(m, t, from) {
         if add_third(alloc, w, m, k, table)? {
@@ -159,7 +181,7 @@ fn add_row(w: &World, m: u32, t: u32, table: &mut Table) -> Result<bool, NoMemor
 }
 
 /// Whether the row of `m` lacks `t`, or something but `m` that the row of `t` has. Takes no memory, and the time of the nodes that the two rows do not share.
-fn lacks_row(m: u32, t: u32, table: &Table) -> bool
+pub(crate) fn lacks_row(m: u32, t: u32, table: &Table) -> bool
     ensures lacks { IsTrue result → Lacks table.now m t }
     ensures whole { result ≡ false → HasRow table.now m t }
 {
@@ -191,7 +213,7 @@ fn add(m: u32, k: u32, table: &mut Table) -> Result<bool, NoMemory>
     Ok(true)
 }
 
-/// Adds that `m` overrides `k`, which a method overrides that `m` overrides at once; unless they are one, or differ in a type below both.
+/// Adds that `m` overrides `k`, which a method overrides that `m` overrides; unless they are one, or differ in a type below both.
 fn add_third(alloc: Global, w: &World, m: u32, k: u32, table: &mut Table) -> Result<bool, NoMemory>
     requires sound { IsSound w.now }
     requires through { (m ≡ k → ⊥) → AgreeBelow w.now m k → Overriding w.now m k }
@@ -199,7 +221,7 @@ fn add_third(alloc: Global, w: &World, m: u32, k: u32, table: &mut Table) -> Res
     ensures table { OnOk result (IsDerived w.now table.new) }
     ensures maps { OnOk result (KeepsMaps table.old.maps table.new.maps) }
     ensures step { IfOk result (IsStep table.old table.new) }
-    ensures has { OnOk result ((m ≡ k → ⊥) → AgreeBelow w.now m k → Has table.new m k) }
+    ensures has { OnOk result (HasThird w.now m table.new k) }
 {
     if m == k || !agree_below(alloc, w, m, k)? {
         return Ok(false);

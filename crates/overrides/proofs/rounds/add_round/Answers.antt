@@ -4,7 +4,7 @@ use Rattle.std.proofs.lemmas.List.Elements.{Contains-get_or}
 use Rattle.class_world.proofs.Words.{length_set}
 use Rattle.overrides.specs.declared.links.Link.{Link}
 use Rattle.overrides.specs.Rounds.{IsFollowed}
-use Rattle.overrides.proofs.Gains.{pass_begins, pass_adds, pass_stays, pass_ends, step_none}
+use Rattle.overrides.proofs.Gains.{AtPlace, at_place, at_places, pass_begins, pass_adds, pass_stays, step_none}
 use Rattle.overrides.proofs.Taken.{taken_next}
 use Rattle.overrides.proofs.rounds.add_round.Goals as goal
 use Rattle.overrides.proofs.rounds.add_round.Goals.{then-more, else-more}
@@ -14,7 +14,7 @@ none = record { lower = 0; upper = 0; free = false }
 
 pub loop-i-init : goal.loop-i-init
 loop-i-init c = record {
-  pass = pass_begins c.args.w.now c.args.table.now (λ t (x : Link). IsFollowed c.args.w.now t x.lower x.upper) c.args.links.now c.args.table.now false c.requires.table (step_none c.args.table.now);
+  pass = pass_begins c.args.w.now c.args.table.now (AtPlace c.args.links.now (λ t (x : Link). IsFollowed c.args.w.now t x.lower x.upper)) c.args.table.now false c.requires.table (step_none c.args.table.now);
   size = c.requires.size;
   taken = c.requires.taken;
 }
@@ -49,10 +49,10 @@ loop-i-preserved c =
     record {
       pass = elim c.if-more.branch [
         | then-more v ↦
-            pass_adds w start (λ t (x : Link). IsFollowed w t x.lower x.upper) links old c.loop-i.added i x h.pass at new c.in_ok-row.more c.if-more.added added.table added.step v.if-more.true v.added-is
+            pass_adds w start (AtPlace links (λ t (x : Link). IsFollowed w t x.lower x.upper)) old c.loop-i.added i h.pass new c.in_ok-row.more c.if-more.added added.table added.step v.if-more.true v.added-is
         | else-more v ↦
-            pass_stays w start (λ t (x : Link). IsFollowed w t x.lower x.upper) links old c.loop-i.added i x h.pass at new c.in_ok-row.more c.if-more.added added.table added.step added.followed
-            v.if-more.false v.added-is
+            pass_stays w start (AtPlace links (λ t (x : Link). IsFollowed w t x.lower x.upper)) old c.loop-i.added i h.pass new c.in_ok-row.more c.if-more.added added.table added.step
+            (λ none. at_place links (λ t (x : Link). IsFollowed w t x.lower x.upper) new i x at (added.followed none)) v.if-more.false v.added-is
       ];
       size = length_set c.loop-i.taken.items i (Some row) ∙ h.size;
       taken = taken_next w links c.loop-i.taken.items old new i x row h.taken added.step.grows added.maps at added.taken;
@@ -66,5 +66,4 @@ returns-clause-step c = c.loop-i.invariant.pass.step
 
 pub returns-clause-closed : goal.returns-clause-closed
 returns-clause-closed c stays =
-    pass_ends c.args.w.now c.args.table.now (λ t (x : Link). IsFollowed c.args.w.now t x.lower x.upper) c.args.links.now c.loop-i.table c.loop-i.added c.loop-i.i c.loop-i.invariant.pass
-    (omega (arith, c.loop-i-test.false)) stays
+    at_places c.args.links.now (λ t (x : Link). IsFollowed c.args.w.now t x.lower x.upper) c.loop-i.table c.loop-i.i (c.loop-i.invariant.pass.done stays) (omega (arith, c.loop-i-test.false))

@@ -1,11 +1,9 @@
-use Rattle.std.proofs.Common.{sym, subst, arith}
+use Rattle.std.proofs.Common.{false, true, sym, subst}
 use Rattle.shared_maps.proofs.Kept.{keeps_both}
 use Rattle.class_world.specs.Overriding as by
 use Rattle.overrides.specs.Rounds.{IsStep}
-use Rattle.overrides.proofs.Gains.{added_derived, derived_row, derived_key, step_on, step_still}
-use Rattle.overrides.proofs.Lacking.{lacking_above, lacking_smaller, thirds_end, thirds_more}
+use Rattle.overrides.proofs.Gains.{added_derived, derived_row, derived_key, step_or}
 use Rattle.overrides.proofs.rounds.add_through.Goals as goal
-use Rattle.overrides.proofs.rounds.add_through.Goals.{then-branch, else-branch}
 
 pub add-requires-clause-row : goal.add-requires-clause-row
 add-requires-clause-row c = derived_row c.args.w.now c.args.table.now c.args.m c.args.t c.requires.table (by.at_once c.requires.at_once)
@@ -16,47 +14,33 @@ add-requires-clause-key c = derived_key c.args.w.now c.args.table.now c.args.m c
 pub add_row-requires-clause-free : goal.add_row-requires-clause-free
 add_row-requires-clause-free c = c.requires.free c.if-free.true
 
-pub lacking-init : goal.lacking-init
-lacking-init c = record {
-  derived = added_derived c.args.w.now c.args.table.now c.add.new.table c.args.m c.args.t c.requires.table c.in_ok-added.ensures.size c.in_ok-added.ensures.only (by.at_once c.requires.at_once);
-  maps = c.in_ok-added.ensures.maps;
-  step = c.in_ok-added.ensures.step;
-  has = c.in_ok-added.ensures.has;
-  thirds = λ k lt. absurd (omega (arith, lt));
-}
+pub add_thirds-requires-clause-overrides : goal.add_thirds-requires-clause-overrides
+add_thirds-requires-clause-overrides c = by.at_once c.requires.at_once
 
-pub add_third-requires-clause-through : goal.add_third-requires-clause-through
-add_third-requires-clause-through c other agree =
-    let up = lacking_above c.lacking.table c.args.m c.args.t c.lacking.from c.in-Some.k c.in-Some.ensures.first.0 in
-    by.through c.requires.at_once (c.lacking.invariant.derived.sound c.args.t c.in-Some.k up) other agree
+pub add_thirds-requires-clause-table : goal.add_thirds-requires-clause-table
+add_thirds-requires-clause-table c =
+    added_derived c.args.w.now c.args.table.now c.add.new.table c.args.m c.args.t c.requires.table c.in_ok-added.ensures.size c.in_ok-added.ensures.only (by.at_once c.requires.at_once)
 
-pub lacking-smaller : goal.lacking-smaller
-lacking-smaller c =
-    lacking_smaller c.lacking.table c.args.m c.args.t c.lacking.from c.add_third.new.table.maps.keys c.in-Some.k c.in-Some.ensures.first.0 c.in_ok-add_third.ensures.maps.keys
+pub returns-then-added-clause-maps : goal.returns-then-added-clause-maps
+returns-then-added-clause-maps c = keeps_both c.in_ok-added.ensures.maps c.in_ok-more.ensures.maps
 
-pub lacking-preserved : goal.lacking-preserved
-lacking-preserved c =
-    let start = c.args.table.now in
-    let old = c.lacking.table in
-    let new = c.add_third.new.table in
-    let h = c.lacking.invariant in
-    let added = c.in_ok-add_third.ensures in
-    record {
-      derived = added.table;
-      maps = keeps_both h.maps added.maps;
-      step = elim c.if-branch.branch [
-        | then-branch v ↦ subst (IsStep start new) (sym v.added-is) (step_on h.step (subst (IsStep old new) v.if-branch.true added.step))
-        | else-branch v ↦ subst (IsStep start new) (sym v.added-is) (step_still h.step (subst (IsStep old new) v.if-branch.false added.step))
-      ];
-      has = added.step.grows c.args.m c.args.t h.has;
-      thirds =
-          thirds_more c.args.w.now c.args.m c.args.t start old c.lacking.from h.step.grows h.thirds new c.in-Some.k c.in-Some.ensures.first added.step.grows added.has;
-    }
+pub returns-then-added-clause-step : goal.returns-then-added-clause-step
+returns-then-added-clause-step c =
+    let first = subst (IsStep c.args.table.now c.add.new.table) c.if-added.true c.in_ok-added.ensures.step in
+    subst (IsStep c.args.table.now c.add_thirds.new.table) (sym c.if-added.true) (step_or true c.in_ok-more.more first c.in_ok-more.ensures.step)
 
-pub returns-clause-joined : goal.returns-clause-joined
-returns-clause-joined c =
-    let h = c.lacking.invariant in
-    record {
-      has = h.has;
-      all = thirds_end c.args.w.now c.args.m c.args.t c.args.table.now c.lacking.table c.lacking.from h.step.grows h.thirds c.in_default.ensures.first;
-    }
+pub returns-else-added-clause-step : goal.returns-else-added-clause-step
+returns-else-added-clause-step c =
+    step_or false c.in_ok-more.more (subst (IsStep c.args.table.now c.add.new.table) c.if-added.false c.in_ok-added.ensures.step) c.in_ok-more.ensures.step
+
+pub returns-then-added-clause-joined : goal.returns-then-added-clause-joined
+returns-then-added-clause-joined c =
+    let added = c.in_ok-added.ensures in
+    let more = c.in_ok-more.ensures in
+    record { has = more.step.grows c.args.m c.args.t added.has; all = λ k has. more.thirds k (added.step.grows c.args.t k has) }
+
+pub returns-else-added-clause-joined : goal.returns-else-added-clause-joined
+returns-else-added-clause-joined c =
+    let added = c.in_ok-added.ensures in
+    let more = c.in_ok-more.ensures in
+    record { has = more.step.grows c.args.m c.args.t added.has; all = λ k has. more.thirds k (added.step.grows c.args.t k has) }

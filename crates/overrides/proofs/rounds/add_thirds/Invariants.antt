@@ -1,9 +1,8 @@
 use Rattle.std.proofs.Common.{◌-◌}
 use Rattle.shared_maps.specs.Maps.{KeepsMaps}
-use Rattle.overrides.specs.Tables.{Has}
 use Rattle.overrides.specs.Rounds.{IsDerived, IsStep}
 use Rattle.overrides.proofs.Lacking.{HasThirds}
-use Rattle.overrides.proofs.rounds.add_through.Given as goal
+use Rattle.overrides.proofs.rounds.add_thirds.Given as goal
 
 abbrev pub decreases-lacking : goal.decreases-lacking
 decreases-lacking l = l.table.maps.keys - l.from
@@ -13,6 +12,5 @@ invariant-lacking l = record {
   derived : IsDerived l.w l.table;
   maps : KeepsMaps l.fn.table.maps l.table.maps;
   step : IsStep l.fn.table l.table l.added;
-  has : Has l.table l.m l.t;
   thirds : HasThirds l.w l.m l.t l.fn.table l.table l.from;
 }

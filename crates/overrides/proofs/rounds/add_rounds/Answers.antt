@@ -1,14 +1,12 @@
 use Rattle.std.proofs.Common.{◌≡◌, sym, ap, ◌∙◌, subst, length, rules}
 use Rattle.overrides.specs.Rounds.{AreTaken}
-use Rattle.overrides.proofs.Gains.{followed_holds, same_size}
+use Rattle.overrides.proofs.Gains.{same_size}
 use Rattle.overrides.proofs.Gaps.{fewer_left}
-use Rattle.overrides.proofs.Taken.{links_followed, none_length, none_taken, taken_begins}
-use Rattle.overrides.proofs.rounds.add_all.Goals as goal
+use Rattle.overrides.proofs.Taken.{none_length, none_taken, taken_begins}
+use Rattle.overrides.proofs.rounds.add_rounds.Goals as goal
 
-pub returns-then-not-branch : goal.returns-then-not-branch
-returns-then-not-branch c =
-    let round = c.in_ok-add_round.ensures in
-    followed_holds c.args.w.now c.add_round.new.table (links_followed c.args.w.now c.args.links.now c.add_round.new.table c.requires.links (round.closed c.if-not-branch.true)) round.table
+pub returns-then-not-branch-clause-followed : goal.returns-then-not-branch-clause-followed
+returns-then-not-branch-clause-followed c = c.in_ok-add_round.ensures.closed c.if-not-branch.true
 
 pub rounds-smaller : goal.rounds-smaller
 rounds-smaller c =

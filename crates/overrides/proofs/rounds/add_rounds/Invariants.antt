@@ -1,7 +1,7 @@
 use Rattle.std.proofs.Common.{◌≡◌, length}
 use Rattle.overrides.specs.Rounds.{AreTaken, IsDerived}
 use Rattle.overrides.proofs.Gaps.{left}
-use Rattle.overrides.proofs.rounds.add_all.Given as goal
+use Rattle.overrides.proofs.rounds.add_rounds.Given as goal
 
 abbrev pub invariant-rounds : goal.invariant-rounds
 invariant-rounds l = record {
