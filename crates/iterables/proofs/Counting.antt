@@ -184,13 +184,16 @@ module _ (w : World) (sound : IsSound w) where
         let own_one = first.0 in
         absurd (none m (own_one.0, own_one.1, own_one.2 ∙ sym is) (subst (λ d. HaveOneSignatureIn w d m k) (sym is) (one_signature m k named b)))
 
-    -- all that a type declares are of its kind
+    no_interface : (d : ℕ) → d ≡ c → IsClass w d → own.interface ≡ false
+    no_interface d is class =
+        let same : class.0 ≡ own = cc (is, class.1, at) in
+        ap (λ (i : TypeInfo). i.interface) (sym same) ∙ class.2
+
+    -- where a class declares one of those that the type declares, it is the type
     own_class : (k : ℕ) → DeclaresNamed w c n k → IsOfClass w k → own.interface ≡ false
     own_class k own_one is =
         let same : is.1.0 ≡ own_one.0 = cc (is.1.1.0, own_one.1.0) in
-        let class = subst (IsClass w) (sym is.1.2 ∙ ap (λ (i : MethodInfo). i.owner) same ∙ own_one.2) is.2 in
-        let same_own : class.0 ≡ own = cc (class.1, at) in
-        ap (λ (i : TypeInfo). i.interface) (sym same_own) ∙ class.2
+        no_interface is.0 (sym is.1.2 ∙ ap (λ (i : MethodInfo). i.owner) same ∙ own_one.2) is.2
 
     pub first_counts : (m : ℕ) → IsFirstDeclared w c n m → FindsOne (IsCounted w c n) (Some m)
     first_counts m first = first_of_named m named (go own.interface refl)

@@ -1,6 +1,5 @@
-use Rattle.std.proofs.Common.{◌≡◌, ℕ, Some, None, nat_eq, refl, sym, ◌∙◌, inr}
+use Rattle.std.proofs.Common.{◌≡◌, Some, nat_eq, refl, sym, inr}
 use Rattle.std.specs.HashMap.{get}
-use Rattle.counted_methods.specs.Chosen.{IsBetter}
 use Rattle.counted_methods.proofs.chosen.add_better.Goals as goal
 use Rattle.counted_methods.proofs.chosen.add_better.Goals.{in-Some, in-None}
 

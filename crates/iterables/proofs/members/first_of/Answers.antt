@@ -1,7 +1,7 @@
 use Rattle.std.proofs.Common.{sym, ◌∙◌}
 use Rattle.std.proofs.lemmas.Option.{slice_get-get_or}
 use Rattle.class_world.specs.Counted.{IsOfClass}
-use Rattle.member_methods.proofs.Firsts.{among_none, none_next}
+use Rattle.member_methods.proofs.Firsts.{none_next}
 use Rattle.iterables.proofs.Counting.{class_told, others_told}
 use Rattle.iterables.proofs.members.first_of.Goals as goal
 
