@@ -13,8 +13,8 @@ use Rattle.counted_methods.specs.Chosen.{AreChosen, AreKeptBy, AreSigns, HasSign
 use Rattle.counted_methods.proofs.Firsts.{later_greater, one_place, rises_push}
 use Rattle.counted_methods.proofs.Preferring.{not_itself, not_both, other_preferred, preferred_through}
 
-pub best_skip : (above ms : List ℕ) (signs : List (Option ℕ)) (i : ℕ) (best : ℕ → Option ℕ) → slice_get signs i ≡ Some None → IsBest above ms signs i best → IsBest above ms signs (i + 1) best
-best_skip above ms signs i best none before = record {
+pub best_skip : (w : World) (above ms : List ℕ) (signs : List (Option ℕ)) (i : ℕ) (best : ℕ → Option ℕ) → slice_get signs i ≡ Some None → IsBest w above ms signs i best → IsBest w above ms signs (i + 1) best
+best_skip w above ms signs i best none before = record {
   found = λ j m n lt at sign. elim (low_or_last j i lt) [
     | inl low ↦ before.found j m n low at sign
     | inr last ↦ let never : Some None ≡ Some (Some n) = sym none ∙ ap (slice_get signs) (sym last) ∙ sign in absurd (cc never)
@@ -22,10 +22,10 @@ best_skip above ms signs i best none before = record {
   from = λ n b e. let h = before.from n b e in (h.0, (let lt = h.1 in omega (arith, lt)), h.2, h.3);
 }
 
-module _ (above ms : List ℕ) (signs : List (Option ℕ)) (i m n : ℕ) (best new : ℕ → Option ℕ) (at : slice_get ms i ≡ Some m) (sign : HasSign signs i n) (better : IsBetter above n m best new)
-    (before : IsBest above ms signs i best) where
+module _ (w : World) (above ms : List ℕ) (signs : List (Option ℕ)) (i m n : ℕ) (best new : ℕ → Option ℕ) (at : slice_get ms i ≡ Some m) (sign : HasSign signs i n) (better : IsBetter w above n m best new)
+    (before : IsBest w above ms signs i best) where
   abbrev IsFound : ℕ → ℕ → Type 0
-  IsFound k q = (b : ℕ) × (new q ≡ Some b) × ((b ≡ k) ⊎ IsPreferred above b k)
+  IsFound k q = (b : ℕ) × (new q ≡ Some b) × ((b ≡ k) ⊎ IsPreferred w above b k)
 
   found_before : (j k q : ℕ) → j < i → slice_get ms j ≡ Some k → HasSign signs j q → IsFound k q
   found_before j k q low at_k sign_k =
@@ -36,7 +36,7 @@ module _ (above ms : List ℕ) (signs : List (Option ℕ)) (i m n : ℕ) (best n
             elim better.here [
               | inl taken ↦
                   let over = taken.1 old.0 old_n in
-                  (m, ap new same ∙ taken.0, inr (elim old.2 [ inl is ↦ subst (IsPreferred above m) is over | inr less ↦ preferred_through above m old.0 k over less ]))
+                  (m, ap new same ∙ taken.0, inr (elim old.2 [ inl is ↦ subst (IsPreferred w above m) is over | inr less ↦ preferred_through w above m old.0 k over less ]))
               | inr stays ↦
                   let is : stays.0 ≡ old.0 = let both : Some stays.0 ≡ Some old.0 = sym stays.1 ∙ old_n in cc both in
                   (old.0, ap new same ∙ stays.2 ∙ ap Some is, old.2)
@@ -47,7 +47,7 @@ module _ (above ms : List ℕ) (signs : List (Option ℕ)) (i m n : ℕ) (best n
   found_last : IsFound m n
   found_last = elim better.here [
     | inl taken ↦ (m, taken.0, inl refl)
-    | inr stays ↦ (stays.0, stays.2, other_preferred above m stays.0 stays.3)
+    | inr stays ↦ (stays.0, stays.2, other_preferred w above m stays.0 stays.3)
   ]
 
   from_one : (q b : ℕ) → new q ≡ Some b → (j : ℕ) × (j < i + 1) × (slice_get ms j ≡ Some b) × HasSign signs j q
@@ -64,7 +64,7 @@ module _ (above ms : List ℕ) (signs : List (Option ℕ)) (i m n : ℕ) (best n
     | inr other ↦ let h = before.from q b (sym (better.others q other) ∙ e) in (h.0, (let lt = h.1 in omega (arith, lt)), h.2, h.3)
   ]
 
-  pub best_next : IsBest above ms signs (i + 1) new
+  pub best_next : IsBest w above ms signs (i + 1) new
   best_next = record {
     found = λ j k q lt at_k sign_k. elim (low_or_last j i lt) [
       | inl low ↦ found_before j k q low at_k sign_k
@@ -108,7 +108,7 @@ kept_all best ms signs xs i full h = (all_kept (IsBestOf best ms signs) ms xs i 
 
 -- ---- the best are those of which no other is preferred
 
-pub chosen_told : (w : World) (c : ℕ) (above ms : List ℕ) (signs : List (Option ℕ)) (best : ℕ → Option ℕ) (xs : List ℕ) → AreSigns w c ms signs → IsBest above ms signs (length ms) best
+pub chosen_told : (w : World) (c : ℕ) (above ms : List ℕ) (signs : List (Option ℕ)) (best : ℕ → Option ℕ) (xs : List ℕ) → AreSigns w c ms signs → IsBest w above ms signs (length ms) best
     → AreKeptBy best ms signs xs → AreChosen w c above ms xs
 chosen_told w c above ms signs best xs are is kept = (
   λ m. (
@@ -118,7 +118,7 @@ chosen_told w c above ms signs best xs are is kept = (
   kept.1,
 )
   where
-    first : (m : ℕ) → Contains ms m → IsBestOf best ms signs m → (k : ℕ) → Contains ms k → HaveOneSignatureIn w c k m → IsPreferred above k m → ⊥
+    first : (m : ℕ) → Contains ms m → IsBestOf best ms signs m → (k : ℕ) → Contains ms k → HaveOneSignatureIn w c k m → IsPreferred w above k m → ⊥
     first m here own k there one less =
         let at = contains_at ms m here in
         let at_k = contains_at ms k there in
@@ -127,11 +127,11 @@ chosen_told w c above ms signs best xs are is kept = (
         let b = is.found at_k.0 k sign.0 (slice_get_within ms at_k.0 k at_k.1) at_k.1 sign.1 in
         let same : b.0 ≡ m = let both : Some b.0 ≡ Some m = sym b.1 ∙ mine in cc both in
         elim b.2 [
-          | inl e ↦ not_itself above m (subst (λ k. IsPreferred above k m) (sym e ∙ same) less)
-          | inr over ↦ not_both above m k (subst (λ b. IsPreferred above b k) same over) less
+          | inl e ↦ not_itself w above m (subst (λ k. IsPreferred w above k m) (sym e ∙ same) less)
+          | inr over ↦ not_both w above m k (subst (λ b. IsPreferred w above b k) same over) less
         ]
 
-    second : (m : ℕ) → ((k : ℕ) → Contains ms k → HaveOneSignatureIn w c k m → IsPreferred above k m → ⊥) → (j n : ℕ) → slice_get ms j ≡ Some m → HasSign signs j n → best n ≡ Some m
+    second : (m : ℕ) → ((k : ℕ) → Contains ms k → HaveOneSignatureIn w c k m → IsPreferred w above k m → ⊥) → (j n : ℕ) → slice_get ms j ≡ Some m → HasSign signs j n → best n ≡ Some m
     second m none j n at sign =
         let b = is.found j m n (slice_get_within ms j m at) at sign in
         elim b.2 [

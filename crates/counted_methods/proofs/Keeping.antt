@@ -165,7 +165,7 @@ module _ (w : World) where
             is.0,
             λ k member one less.
                 let is_k = named_too c n arity k m is member one in
-                mine.1 k ((are.0 k).1 is_k) one (preferred_alike counted above k m (back k is_k) (back m is) less),
+                mine.1 k ((are.0 k).1 is_k) one (preferred_alike w counted above k m (back k is_k) (back m is) less),
           ),
           is,
         )
@@ -178,7 +178,7 @@ module _ (w : World) where
       (are.0 m).1 is,
       λ k there one less.
           let is_k = (are.0 k).0 there in
-          counts.1 k is_k.0 one (preferred_alike above counted k m (alike k is_k) (alike m is) less),
+          counts.1 k is_k.0 one (preferred_alike w above counted k m (alike k is_k) (alike m is) less),
     )
 
     pub chosen_kept : AreKept w c n arity (Counts w c counted) (Some xs)
@@ -205,7 +205,7 @@ module _ (w : World) where
     is.0,
     λ j member one less.
         let is_j = named_too c n arity j k is member one in
-        not_itself counted k (subst (λ j. IsPreferred counted j k) (alone j is_j ∙ sym (alone k is)) less),
+        not_itself w counted k (subst (λ j. IsPreferred w counted j k) (alone j is_j ∙ sym (alone k is)) less),
   )
     where
       alone : (k : ℕ) → IsMethodNamed w c n arity k → k ≡ m

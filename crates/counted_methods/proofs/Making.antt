@@ -32,7 +32,7 @@ kept_alike w c n arity P Q (Some ms) alike kept = (
 -- ---- the lists of a type that count, from that of its superclass
 
 counts_alike : (w : World) (c : ℕ) (xs ys : List ℕ) → ((m : ℕ) → Contains xs m ↔ Contains ys m) → (m : ℕ) → Counts w c xs m → Counts w c ys m
-counts_alike w c xs ys alike m h = (h.0, λ k member one less. h.1 k member one (preferred_alike ys xs k m (let a = alike k in (a.1, a.0)) (let a = alike m in (a.1, a.0)) less))
+counts_alike w c xs ys alike m h = (h.0, λ k member one less. h.1 k member one (preferred_alike w ys xs k m (let a = alike k in (a.1, a.0)) (let a = alike m in (a.1, a.0)) less))
 
 -- what is counted above c
 pub record Base (w : World) (c : ℕ) (t : CountedMethods) (above : Option ℕ) : Type 0 where

@@ -30,14 +30,14 @@ pub record AreSigns (w : World) (c : ℕ) (ms : List ℕ) (signs : List (Option 
   pub told : (i j m k : ℕ) → slice_get ms i ≡ Some m → slice_get ms j ≡ Some k → HaveOneSignatureIn w c m k ↔ ((n : ℕ) × HasSign signs i n × HasSign signs j n)
 
 -- of the first i methods the best of each sign
-pub record IsBest (above ms : List ℕ) (signs : List (Option ℕ)) (i : ℕ) (best : ℕ → Option ℕ) : Type 0 where
-  pub found : (j m n : ℕ) → j < i → slice_get ms j ≡ Some m → HasSign signs j n → (b : ℕ) × (best n ≡ Some b) × ((b ≡ m) ⊎ IsPreferred above b m)
+pub record IsBest (w : World) (above ms : List ℕ) (signs : List (Option ℕ)) (i : ℕ) (best : ℕ → Option ℕ) : Type 0 where
+  pub found : (j m n : ℕ) → j < i → slice_get ms j ≡ Some m → HasSign signs j n → (b : ℕ) × (best n ≡ Some b) × ((b ≡ m) ⊎ IsPreferred w above b m)
   pub from : (n b : ℕ) → best n ≡ Some b → (j : ℕ) × (j < i) × (slice_get ms j ≡ Some b) × HasSign signs j n
 
 -- m is the best of its sign, if it is preferred to the one before
-pub record IsBetter (above : List ℕ) (sign m : ℕ) (old new : ℕ → Option ℕ) : Type 0 where
+pub record IsBetter (w : World) (above : List ℕ) (sign m : ℕ) (old new : ℕ → Option ℕ) : Type 0 where
   pub others : (n : ℕ) → (n ≡ sign → ⊥) → new n ≡ old n
-  pub here : ((new sign ≡ Some m) × ((k : ℕ) → old sign ≡ Some k → IsPreferred above m k)) ⊎ ((k : ℕ) × (old sign ≡ Some k) × (new sign ≡ Some k) × (IsPreferred above m k → ⊥))
+  pub here : ((new sign ≡ Some m) × ((k : ℕ) → old sign ≡ Some k → IsPreferred w above m k)) ⊎ ((k : ℕ) × (old sign ≡ Some k) × (new sign ≡ Some k) × (IsPreferred w above m k → ⊥))
 
 -- the methods that are the best of their signs, ascending
 abbrev pub AreKeptBy : (ℕ → Option ℕ) → List ℕ → List (Option ℕ) → List ℕ → Type 0
@@ -47,4 +47,4 @@ AreKeptBy best ms signs xs =
 -- those of the methods of which none of the others is preferred, ascending
 abbrev pub AreChosen : World → ℕ → List ℕ → List ℕ → List ℕ → Type 0
 AreChosen w c above ms xs =
-    ((m : ℕ) → Contains xs m ↔ (Contains ms m × ((k : ℕ) → Contains ms k → HaveOneSignatureIn w c k m → IsPreferred above k m → ⊥))) × IsStrictlyIncreasing xs
+    ((m : ℕ) → Contains xs m ↔ (Contains ms m × ((k : ℕ) → Contains ms k → HaveOneSignatureIn w c k m → IsPreferred w above k m → ⊥))) × IsStrictlyIncreasing xs

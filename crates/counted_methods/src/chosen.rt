@@ -4,14 +4,16 @@ ghost use Rattle.std.specs.Prelude.{◌≡◌, ◌↔◌, ℕ, List, Some, IfOk,
 ghost use Rattle.std.specs.List.Sorted.{IsStrictlyIncreasing};
 ghost use Rattle.std.specs.HashMap.{get};
 ghost use Rattle.class_world.specs.Sound.{IsSound};
-ghost use Rattle.class_world.specs.Counted.{IsPreferred};
+ghost use Rattle.class_world.specs.Counted.{IsOfClass, IsPreferred};
 ghost use Rattle.counted_methods.specs.Chosen.{AreChosen, AreKeptBy, HaveName, IsBest, IsBetter};
 
 use crate::lists::is_among;
 use crate::signs::signs;
+use crate::superclass::is_class;
 use class_world::World;
 use java_tree::NoMemory;
 use java_tree::tree::Name;
+use seen_methods::method_of;
 use std::alloc::Global;
 use std::collections::HashMap;
 
@@ -31,25 +33,26 @@ pub(crate) fn chosen(
     ensures { IfOk result (λ v. AreChosen w.now c above.now methods.now v.items) }
 {
     let signs = signs(alloc, w, c, name, methods)?;
-    let best = preferred(alloc, above, methods, signs.as_slice())?;
+    let best = preferred(alloc, w, above, methods, signs.as_slice())?;
     kept(alloc, &best, methods, signs.as_slice())
 }
 
 /// For each sign the method that is preferred among those that have it.
 fn preferred(
     alloc: Global,
+    w: &World,
     above: &[u32],
     methods: &[u32],
     signs: &[Option<u32>],
 ) -> Result<HashMap<u32, u32>, NoMemory>
     requires above { IsStrictlyIncreasing above.now }
     requires size { length signs.now ≡ length methods.now }
-    ensures { IfOk result (λ best. IsBest above.now methods.now signs.now (length methods.now) (get nat_eq best)) }
+    ensures { IfOk result (λ best. IsBest w.now above.now methods.now signs.now (length methods.now) (get nat_eq best)) }
 {
     let mut best = HashMap::new(alloc);
     for i in 0..methods.len() {
         if let Some(sign) = signs[i] {
-            add_better(&mut best, above, sign, methods[i])?;
+            add_better(&mut best, w, above, sign, methods[i])?;
         }
     }
     Ok(best)
@@ -58,15 +61,16 @@ fn preferred(
 /// Makes a method the best of its sign, if it is.
 fn add_better(
     best: &mut HashMap<u32, u32>,
+    w: &World,
     above: &[u32],
     sign: u32,
     m: u32,
 ) -> Result<(), NoMemory>
     requires { IsStrictlyIncreasing above.now }
-    ensures { OnOk result (IsBetter above.now sign m (get nat_eq best.old) (get nat_eq best.new)) }
+    ensures { OnOk result (IsBetter w.now above.now sign m (get nat_eq best.old) (get nat_eq best.new)) }
 {
     let is_better = match best.get(&sign) {
-        Some(k) => is_preferred(above, m, *k),
+        Some(k) => is_preferred(w, above, m, *k),
         None => true,
     };
     if is_better {
@@ -76,13 +80,28 @@ fn add_better(
 }
 
 /// Whether the first of two is preferred, where the superclass counts those of `above`.
-fn is_preferred(above: &[u32], m: u32, k: u32) -> bool
+fn is_preferred(w: &World, above: &[u32], m: u32, k: u32) -> bool
     requires { IsStrictlyIncreasing above.now }
-    ensures { IsTrue result ↔ IsPreferred above.now m k }
+    ensures { IsTrue result ↔ IsPreferred w.now above.now m k }
 {
-    let first = is_among(above, m);
-    let second = is_among(above, k);
+    let above_first = is_among(above, m);
+    let above_second = is_among(above, k);
+    if above_first != above_second {
+        return above_first;
+    }
+    let first = is_of_class(w, m);
+    let second = is_of_class(w, k);
     if first == second { m < k } else { first }
+}
+
+/// Whether a class declares the method.
+fn is_of_class(w: &World, m: u32) -> bool
+    ensures { IsTrue result ↔ IsOfClass w.now m }
+{
+    match method_of(w, m) {
+        Some(info) => is_class(w, info.owner),
+        None => false,
+    }
 }
 
 /// The methods that are the best of their signs.

@@ -39,7 +39,7 @@ struct Place {
 
 /// The member methods that count, of all types.
 ///
-/// Of members of one signature one counts: what the superclass counts comes first, then what is declared first. Lists are kept where not all members of a name and a number of parameters count, and types that have one list from their superclass share it.
+/// Of members of one signature one counts: what the superclass counts comes first, then what a class declares, then what is declared first. Lists are kept where not all members of a name and a number of parameters count, and types that have one list from their superclass share it.
 #[derive(Drop)]
 pub struct CountedMethods {
     places: HashMap<Place, u32>,

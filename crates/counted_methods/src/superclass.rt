@@ -40,7 +40,8 @@ fn class_of(w: &World, d: &JavaType) -> Option<u32>
     }
 }
 
-fn is_class(w: &World, c: u32) -> bool
+/// Whether the type is a class.
+pub(crate) fn is_class(w: &World, c: u32) -> bool
     ensures { IsTrue result ↔ IsClass w.now c }
 {
     match w.types.get(c as usize) {

@@ -1,5 +1,5 @@
 -- What is said of a world's order, members and walks, of another with the same types and methods.
-use Rattle.std.proofs.Common.{◌≡◌, ℕ, List, Option, None, Some, inl, inr, ap, sym, ◌∙◌}
+use Rattle.std.proofs.Common.{◌≡◌, ℕ, List, [], Option, None, Some, inl, inr, ap, sym, ◌∙◌}
 use Rattle.std.specs.Prelude.{slice_get, IfSome}
 use Rattle.java_tree.specs.declared.tree.Name.{Name}
 use Rattle.class_world.specs.declared.world.World.{World}
@@ -16,6 +16,7 @@ use Rattle.class_world.specs.Sound.{AreSupers, IsRow, IsShortcut, IsSound, IsSup
 use Rattle.class_world.specs.Signatures.{IsMethod, IsSeenWith, HasParams, HaveOneSignatureIn}
 use Rattle.class_world.specs.Inheritance.{IsDirectlyAbove, DeclaresMethod, IsPrivateMethod, IsMemberMethod}
 use Rattle.class_world.specs.Inheritance as inheritance
+use Rattle.class_world.specs.Counted.{IsOfClass, IsPreferred, from_superclass, of_class, declared_first}
 use Rattle.iterables.specs.Walks.{IsCalled, IsCounted, IsUsable, WalkIs}
 
 pub record AreAlike (w v : World) : Type 0 where
@@ -121,6 +122,17 @@ member w v l c m (inheritance.inherited {s = s} above h open_ none) =
     inheritance.inherited (directly_above w v l c s above) (member w v l s m h) (λ p. open_ (private v w r m p))
     (λ k d same. none k (declares v w r c k d) (one_signature v w r c k m same))
 
+of_class_there : (w v : World) → AreAlike w v → (m : ℕ) → IsOfClass w m → IsOfClass v m
+of_class_there w v l m h = (h.0, declares w v l h.0 m h.1, (h.2.0, known w v l h.0 h.2.0 h.2.1, h.2.2))
+
+preferred : (w v : World) → AreAlike w v → (counted : List ℕ) (m k : ℕ) → IsPreferred w counted m k → IsPreferred v counted m k
+preferred w v l counted m k (from_superclass here not) = from_superclass here not
+preferred w v l counted m k (of_class alike is not) = of_class alike (of_class_there w v l m is) (λ h. not (of_class_there v w (back w v l) k h))
+preferred w v l counted m k (declared_first alike kind lt) = declared_first alike (
+  λ h. of_class_there w v l k (kind.0 (of_class_there v w (back w v l) m h)),
+  λ h. of_class_there w v l m (kind.1 (of_class_there v w (back w v l) k h)),
+) lt
+
 -- ---- walks
 
 module _ (names : List (List ℕ)) where
@@ -128,7 +140,7 @@ module _ (names : List (List ℕ)) where
   counted w v l c n m h =
       let r = back w v l in (
         (member w v l c m h.0.0, (h.0.1.0, method w v l m h.0.1.0 h.0.1.1, h.0.1.2, h.0.1.3)),
-        (member w v l c m h.1.0, λ k is one less. h.1.1 k (member v w r c k is) (one_signature v w r c k m one) less),
+        (member w v l c m h.1.0, λ k is one less. h.1.1 k (member v w r c k is) (one_signature v w r c k m one) (preferred v w r [] k m less)),
       )
 
   called : (w v : World) → AreAlike w v → (c : ℕ) (word : List ℕ) (t : JavaType) (m : ℕ) → IsCalled names w c word t m → IsCalled names v c word t m

@@ -1,5 +1,5 @@
--- Of the members of an interface with one name and no parameters the lowest counts, and no other.
-use Rattle.std.proofs.Common.{◌≡◌, ℕ, ◌<◌, ◌≤◌, List, [], ◌∷◌, Option, None, Some, inl, inr, map, refl, sym, ap, ◌∙◌, subst, length, arith}
+-- Of the members of an interface with one name and no parameters the first that a class declares counts, or else the first, and no other.
+use Rattle.std.proofs.Common.{◌≡◌, ℕ, ◌<◌, ◌≤◌, Bool, true, false, List, [], ◌∷◌, Option, None, Some, inl, inr, ◌↔◌, map, refl, sym, ap, ◌∙◌, subst, length, arith}
 use Rattle.std.specs.Prelude.{slice_get}
 use Rattle.std.specs.List.{Contains}
 use Rattle.std.specs.List.Sorted.{IsStrictlyIncreasing}
@@ -20,16 +20,18 @@ use Rattle.class_world.specs.Subtypes.{Subtype}
 use Rattle.class_world.specs.Sound.{IsSound}
 use Rattle.class_world.specs.Signatures.{IsMethod, IsSeenWith, HaveOneSignatureIn}
 use Rattle.class_world.specs.Inheritance.{IsDirectlyAbove, IsMemberMethod, IsMethodNamed, declared, inherited}
-use Rattle.class_world.specs.Counted.{IsPreferred, from_superclass, declared_first}
+use Rattle.class_world.specs.Overriding.{IsClass}
+use Rattle.class_world.specs.Counted as preference
+use Rattle.class_world.specs.Counted.{IsOfClass, IsPreferred, from_superclass, declared_first}
 use Rattle.class_world.proofs.Forms.{same_class}
 use Rattle.class_world.proofs.Substs.{put_class, put_own, length_map, there_is, variables_length}
 use Rattle.class_world.proofs.Orders.{class_parts, class_supers}
 use Rattle.class_world.proofs.Lifts.{put_below}
 use Rattle.class_world.proofs.Steps.{put_same}
 use Rattle.member_methods.specs.Methods.{AreNamed}
-use Rattle.member_methods.proofs.Firsts.{at_contains, contains_at}
+use Rattle.member_methods.proofs.Firsts.{Among, among_all, among_none, at_contains, contains_at}
 use Rattle.iterables.specs.Walks.{IsCounted}
-use Rattle.iterables.specs.Told.{FindsOne, IsFirstDeclared}
+use Rattle.iterables.specs.Told.{ComesFirst, DeclaresNamed, FindsOne, IsFirstDeclared, TellsFirst}
 
 -- the class s is above c, with these arguments
 record IsSeenAbove (w : World) (own : TypeInfo) (c s : ℕ) : Type 0 where
@@ -138,60 +140,131 @@ module _ (w : World) (sound : IsSound w) where
         sym (length_map (substitute p.2) p.0.params) ∙ ap length (sym p.4 ∙ q.4) ∙ length_map (substitute q.2) q.0.params ∙ ap (λ (i : MethodInfo). length i.params) same_m ∙ a.1.3 in
         (member, (p.0, p.1, name, len))
 
-    not_before : (k m : ℕ) → m ≤ k → IsPreferred [] k m → ⊥
-    not_before k m low (from_superclass has none) = let lt = has.1 in absurd (omega (arith, lt))
-    not_before k m low (declared_first same lt) = omega (arith, low, lt)
+    not_listed : (k : ℕ) → Contains [] k → ⊥
+    not_listed k has = let lt = has.1 in omega (arith, lt)
 
-    -- the lowest of them
-    pub lowest_counts : (m : ℕ) → IsMethodNamed w c n 0 m → ((k : ℕ) → IsMethodNamed w c n 0 k → m ≤ k) → FindsOne (IsCounted w c n) (Some m)
-    lowest_counts m named least = (
-      (named, (named.0, λ k member one less. not_before k m (least k (named_by m k named member one)) less)),
-      λ k counts. elim (cases_lt m k) [
-        | inl lt ↦ absurd (counts.1.1 m named.0 (one_signature m k named counts.0) (declared_first ((λ h. let x = h.1 in absurd (omega (arith, x))), (λ h. let x = h.1 in absurd (omega (arith, x)))) lt))
-        | inr ge ↦ let low = least k counts.0 in omega (arith, ge, low)
-      ],
+    none_listed : (m k : ℕ) → Contains [] m ↔ Contains [] k
+    none_listed m k = (λ h. absurd (not_listed m h), λ h. absurd (not_listed k h))
+
+    -- none of them is preferred to the one that comes first
+    not_before : (k m : ℕ) → IsMethodNamed w c n 0 k → ComesFirst w (IsMethodNamed w c n 0) m → IsPreferred w [] k m → ⊥
+    not_before k m named first (from_superclass has none) = not_listed k has
+    not_before k m named (inl first) (preference.of_class alike is not) = not first.0
+    not_before k m named (inr first) (preference.of_class alike is not) = first.0 k named is
+    not_before k m named (inl first) (declared_first alike kind lt) = let low = first.1 k named (kind.1 first.0) in omega (arith, low, lt)
+    not_before k m named (inr first) (declared_first alike kind lt) = let low = first.1 k named in omega (arith, low, lt)
+
+    -- and it is to each other
+    before_other : (k m : ℕ) → IsMethodNamed w c n 0 m → IsMethodNamed w c n 0 k → ComesFirst w (IsMethodNamed w c n 0) m → (IsPreferred w [] m k → ⊥) → k ≡ m
+    before_other k m own named (inl first) not = elim (cases_lt m k) [
+      | inl lt ↦ absurd (not (preference.of_class (none_listed m k) first.0 (λ is. not (declared_first (none_listed m k) (λ h. is, λ h. first.0) lt))))
+      | inr ge ↦ elim (cases_lt k m) [
+        | inl lt ↦ absurd (not (preference.of_class (none_listed m k) first.0 (λ is. let low = first.1 k named is in omega (arith, low, lt))))
+        | inr le ↦ omega (arith, ge, le)
+      ]
+    ]
+    before_other k m own named (inr first) not = elim (cases_lt m k) [
+      | inl lt ↦ absurd (not (declared_first (none_listed m k) (λ h. absurd (first.0 m own h), λ h. absurd (first.0 k named h)) lt))
+      | inr ge ↦ let low = first.1 k named in omega (arith, ge, low)
+    ]
+
+    -- what comes first of them
+    first_of_named : (m : ℕ) → IsMethodNamed w c n 0 m → ComesFirst w (IsMethodNamed w c n 0) m → FindsOne (IsCounted w c n) (Some m)
+    first_of_named m named first = (
+      (named, (named.0, λ k member one less. not_before k m (named_by m k named member one) first less)),
+      λ k counts. before_other k m named counts.0 first (counts.1.1 m named.0 (one_signature m k named counts.0)),
     )
 
     -- a member that the type declares hides those of its name that others declare
-    own_lowest : (m k : ℕ) → IsFirstDeclared w c n m → IsMethodNamed w c n 0 m → (d : ℕ) → d ≡ c → IsMemberMethod w d k → IsMethodNamed w c n 0 k → m ≤ k
-    own_lowest m k first named d is (declared h) b = elim (cases_lt k m) [
-      | inl lt ↦
-          let same : h.0 ≡ b.1.0 = cc (h.1.0, b.1.1.0) in
-          absurd (first.1 k lt (b.1.0, b.1.1, ap (λ (i : MethodInfo). i.owner) (sym same) ∙ h.2 ∙ is, b.1.2, none_of b.1.0.params b.1.3))
-      | inr ge ↦ ge
-    ]
-    own_lowest m k first named d is (inherited above member open_one none) b =
+    own_alone : (m k : ℕ) → IsFirstDeclared w c n m → IsMethodNamed w c n 0 m → (d : ℕ) → d ≡ c → IsMemberMethod w d k → IsMethodNamed w c n 0 k → DeclaresNamed w c n k
+    own_alone m k first named d is (declared h) b =
+        let same : h.0 ≡ b.1.0 = cc (h.1.0, b.1.1.0) in
+        (b.1.0, b.1.1, ap (λ (i : MethodInfo). i.owner) (sym same) ∙ h.2 ∙ is, b.1.2, none_of b.1.0.params b.1.3)
+    own_alone m k first named d is (inherited above member open_one none) b =
         let own_one = first.0 in
         absurd (none m (own_one.0, own_one.1, own_one.2 ∙ sym is) (subst (λ d. HaveOneSignatureIn w d m k) (sym is) (one_signature m k named b)))
 
-    pub first_counts : (m : ℕ) → IsFirstDeclared w c n m → FindsOne (IsCounted w c n) (Some m)
-    first_counts m first =
-        let h = first.0 in
-        let named : IsMethodNamed w c n 0 m = (declared (h.0, h.1, h.2), (h.0, h.1, h.3, ap length h.4)) in
-        lowest_counts m named (λ k b. own_lowest m k first named c refl b.0 b)
+    no_interface : (d : ℕ) → d ≡ c → IsClass w d → own.interface ≡ false
+    no_interface d is class =
+        let same : class.0 ≡ own = cc (is, class.1, at) in
+        ap (λ (i : TypeInfo). i.interface) (sym same) ∙ class.2
 
-    first_least : (xs : List ℕ) (x m : ℕ) → IsStrictlyIncreasing xs → slice_get xs 0 ≡ Some x → Contains xs m → x ≤ m
-    first_least xs x m rises first h =
-        let there = contains_at xs m h in
-        elim (cases_lt 0 there.0) [
-          | inl lt ↦
-              let within = slice_get_within xs there.0 m there.1 in
-              let low : get_or xs 0 0 < get_or xs there.0 0 = AllPairs-from_increasing xs rises 0 there.0 0 lt within in
-              let one : get_or xs 0 0 ≡ x = get_or_from_slice_get xs 0 x 0 first in
-              let two : get_or xs there.0 0 ≡ m = get_or_from_slice_get xs there.0 m 0 there.1 in
-              omega (arith, low, one, two)
-          | inr ge ↦
-              let zero_is : there.0 ≡ 0 = omega (arith, ge) in
-              let both : Some x ≡ Some m = sym first ∙ ap (slice_get xs) (sym zero_is) ∙ there.1 in
-              let same : x ≡ m = cc both in
-              omega (arith, same)
-        ]
+    -- where a class declares one of those that the type declares, it is the type
+    own_class : (k : ℕ) → DeclaresNamed w c n k → IsOfClass w k → own.interface ≡ false
+    own_class k own_one is =
+        let same : is.1.0 ≡ own_one.0 = cc (is.1.1.0, own_one.1.0) in
+        no_interface is.0 (sym is.1.2 ∙ ap (λ (i : MethodInfo). i.owner) same ∙ own_one.2) is.2
+
+    pub first_counts : (m : ℕ) → IsFirstDeclared w c n m → FindsOne (IsCounted w c n) (Some m)
+    first_counts m first = first_of_named m named (go own.interface refl)
+      where
+        named : IsMethodNamed w c n 0 m
+        named = let h = first.0 in (declared (h.0, h.1, h.2), (h.0, h.1, h.3, ap length h.4))
+
+        own_one : (k : ℕ) → IsMethodNamed w c n 0 k → DeclaresNamed w c n k
+        own_one k b = own_alone m k first named c refl b.0 b
+
+        least : (k : ℕ) → IsMethodNamed w c n 0 k → m ≤ k
+        least k b = elim (cases_lt k m) [ inl lt ↦ absurd (first.1 k lt (own_one k b)) | inr ge ↦ ge ]
+
+        go : (b : Bool) → own.interface ≡ b → ComesFirst w (IsMethodNamed w c n 0) m
+        go false e = let h = first.0 in inl ((c, (h.0, h.1, h.2), (own, at, e)), λ k b is. least k b)
+        go true e = inr (
+          λ k b is. let never : true ≡ false = sym e ∙ own_class k (own_one k b) is in absurd (cc never),
+          λ k b. least k b,
+        )
 
     -- the first of the list of all of them
-    pub listed_counts : (xs : List ℕ) (o : Option ℕ) → AreNamed w c n 0 xs → slice_get xs 0 ≡ o → FindsOne (IsCounted w c n) o
-    listed_counts xs None are first = λ k counts.
-        let there = contains_at xs k ((are.0 k).1 counts.0) in
-        let lt : there.0 < length xs = slice_get_within xs there.0 k there.1 in
-        let some = there_is xs 0 (omega (arith, lt)) in
-        absurd (cc (first, some.1))
-    listed_counts xs (Some x) are first = lowest_counts x ((are.0 x).0 (at_contains xs 0 x first)) (λ k b. first_least xs x k are.1 first ((are.0 k).1 b))
+    pub listed_counts : (xs : List ℕ) (o : Option ℕ) → AreNamed w c n 0 xs → TellsFirst w xs o → FindsOne (IsCounted w c n) o
+    listed_counts xs None are none = λ k counts. none k ((are.0 k).1 counts.0)
+    listed_counts xs (Some x) are first = first_of_named x ((are.0 x).0 first.0) (elim first.1 [
+      | inl h ↦ inl (h.0, λ k b is. h.1 k ((are.0 k).1 b) is)
+      | inr h ↦ inr (λ k b is. h.0 k ((are.0 k).1 b) is, λ k b. h.1 k ((are.0 k).1 b))
+    ])
+
+-- ---- the first of a list
+
+-- of ascending numbers a later one is greater
+later_greater : (xs : List ℕ) (i j x y : ℕ) → IsStrictlyIncreasing xs → slice_get xs i ≡ Some x → slice_get xs j ≡ Some y → i < j → x < y
+later_greater xs i j x y rises at_x at_y lt =
+    let within = slice_get_within xs j y at_y in
+    let low : get_or xs i 0 < get_or xs j 0 = AllPairs-from_increasing xs rises i j 0 lt within in
+    let one : get_or xs i 0 ≡ x = get_or_from_slice_get xs i x 0 at_x in
+    let two : get_or xs j 0 ≡ y = get_or_from_slice_get xs j y 0 at_y in
+    omega (arith, low, one, two)
+
+-- what does not stand before a number is no lower
+not_lower : (xs : List ℕ) (i x k : ℕ) → IsStrictlyIncreasing xs → slice_get xs i ≡ Some x → Contains xs k → (Among xs i k → ⊥) → x ≤ k
+not_lower xs i x k rises at h not =
+    let there = contains_at xs k h in
+    elim (cases_lt there.0 i) [
+      | inl lt ↦ absurd (not (there.0, lt, there.1))
+      | inr ge ↦ elim (cases_lt i there.0) [
+        | inl lt ↦ let low = later_greater xs i there.0 x k rises at there.1 lt in omega (arith, low)
+        | inr le ↦
+            let place : there.0 ≡ i = omega (arith, ge, le) in
+            let both : Some k ≡ Some x = sym there.1 ∙ ap (slice_get xs) place ∙ at in
+            let same : k ≡ x = cc both in
+            omega (arith, same)
+      ]
+    ]
+
+module _ (w : World) (xs : List ℕ) (rises : IsStrictlyIncreasing xs) (i : ℕ) (none : (k : ℕ) → Among xs i k → IsOfClass w k → ⊥) where
+  -- the first that a class declares
+  pub class_told : (x : ℕ) → slice_get xs i ≡ Some x → IsOfClass w x → TellsFirst w xs (Some x)
+  class_told x at is = (at_contains xs i x at, inl (is, λ k h is_k. not_lower xs i x k rises at h (λ before. none k before is_k)))
+
+  -- no class declares any
+  pub others_told : (o : Option ℕ) → length xs ≤ i → slice_get xs 0 ≡ o → TellsFirst w xs o
+  others_told None full first = λ k h.
+      let there = contains_at xs k h in
+      let lt : there.0 < length xs = slice_get_within xs there.0 k there.1 in
+      let some = there_is xs 0 (omega (arith, lt)) in
+      absurd (cc (first, some.1))
+  others_told (Some x) full first = (
+    at_contains xs 0 x first,
+    inr (
+      λ k h is. none k (among_all xs i k full h) is,
+      λ k h. not_lower xs 0 x k rises first h (λ before. among_none xs k before),
+    ),
+  )

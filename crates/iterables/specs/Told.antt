@@ -1,5 +1,6 @@
 -- What the parts of the search answer.
-use Rattle.std.specs.Prelude.{◌≡◌, ℕ, ◌<◌, List, [], Option, Some, None, codes}
+use Rattle.std.specs.Prelude.{◌≡◌, ℕ, ◌<◌, ◌≤◌, ◌⊎◌, List, [], Option, Some, None, codes}
+use Rattle.std.specs.List.{Contains}
 use Rattle.java_tree.specs.declared.tree.Name.{Name}
 use Rattle.java_tree.specs.declared.tree.Primitive.TheVariants as prim
 use Rattle.class_world.specs.declared.world.World.{World}
@@ -8,6 +9,7 @@ use Rattle.class_world.specs.declared.world.MethodInfo.{MethodInfo}
 use Rattle.class_world.specs.declared.world.JavaType.{JavaType}
 use Rattle.class_world.specs.declared.world.JavaType.TheVariants as ty
 use Rattle.class_world.specs.Signatures.{IsMethod}
+use Rattle.class_world.specs.Counted.{IsOfClass}
 use Rattle.seen_methods.specs.Seen.{HasResult}
 use Rattle.iterables.specs.declared.calls.IteratorCall.{IteratorCall}
 use Rattle.iterables.specs.declared.calls.StepCalls.{StepCalls}
@@ -30,6 +32,14 @@ DeclaresNamed w c n m = (info : MethodInfo) × IsMethod w m info × (info.owner 
 -- and it is the first
 abbrev pub IsFirstDeclared : World → ℕ → Name → ℕ → Type 0
 IsFirstDeclared w c n m = DeclaresNamed w c n m × ((k : ℕ) → k < m → DeclaresNamed w c n k → ⊥)
+
+-- Of the methods of which P holds m is the first that a class declares; or no class declares any, and it is the first of all.
+abbrev pub ComesFirst : World → (ℕ → Type 0) → ℕ → Type 0
+ComesFirst w P m = (IsOfClass w m × ((k : ℕ) → P k → IsOfClass w k → m ≤ k)) ⊎ (((k : ℕ) → P k → IsOfClass w k → ⊥) × ((k : ℕ) → P k → m ≤ k))
+
+abbrev pub TellsFirst : World → List ℕ → Option ℕ → Type 0
+TellsFirst w ms None = (m : ℕ) → Contains ms m → ⊥
+TellsFirst w ms (Some m) = Contains ms m × ComesFirst w (Contains ms) m
 
 -- a member that counts, by the text of its name, without a throws clause
 abbrev pub IsPlain : List (List ℕ) → World → ℕ → List ℕ → ℕ → Type 0

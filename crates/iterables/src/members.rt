@@ -1,9 +1,12 @@
 //! The members of an interface by name, without parameters (JLS 3rd edition, 9.2 and 9.4.1).
 
 ghost use Rattle.std.specs.Prelude.{◌↔◌, IsTrue, IfSome, IfOk};
+ghost use Rattle.std.specs.List.Sorted.{IsStrictlyIncreasing};
 ghost use Rattle.class_world.specs.Sound.{IsKnown, IsSound};
+ghost use Rattle.class_world.specs.Overriding.{IsClass};
+ghost use Rattle.class_world.specs.Counted.{IsOfClass};
 ghost use Rattle.iterables.specs.Walks.{IsCounted, ThrowsNothing};
-ghost use Rattle.iterables.specs.Told.{DeclaresNamed, FindsOne, IsFirstDeclared, IsPlain};
+ghost use Rattle.iterables.specs.Told.{DeclaresNamed, FindsOne, IsFirstDeclared, IsPlain, TellsFirst};
 
 use crate::texts::name_of;
 use class_world::World;
@@ -38,6 +41,38 @@ fn first_declared(w: &World, c: u32, name: Name) -> Option<u32>
     None
 }
 
+fn is_class(w: &World, c: u32) -> bool
+    ensures { IsTrue result ↔ IsClass w.now c }
+{
+    match w.types.get(c as usize) {
+        Some(info) => !info.interface,
+        None => false,
+    }
+}
+
+/// Whether a class declares the method.
+fn is_of_class(w: &World, m: u32) -> bool
+    ensures { IsTrue result ↔ IsOfClass w.now m }
+{
+    match method_of(w, m) {
+        Some(info) => is_class(w, info.owner),
+        None => false,
+    }
+}
+
+/// The first of the methods, which are ascending, that a class declares, or else the first of all.
+fn first_of(w: &World, methods: &[u32]) -> Option<u32>
+    requires { IsStrictlyIncreasing methods.now }
+    ensures { TellsFirst w.now methods.now result }
+{
+    for m in methods {
+        if is_of_class(w, *m) {
+            return Some(*m);
+        }
+    }
+    methods.first().copied()
+}
+
 /// The member of the interface `c` of this name and without parameters that counts.
 fn counted(alloc: Global, w: &World, c: u32, name: Name) -> Result<Option<u32>, NoMemory>
     requires sound { IsSound w.now }
@@ -49,7 +84,7 @@ fn counted(alloc: Global, w: &World, c: u32, name: Name) -> Result<Option<u32>, 
         return Ok(Some(m));
     }
     let lists = MethodLists::of(alloc, w)?;
-    Ok(lists.named(c, name, 0).first().copied())
+    Ok(first_of(w, lists.named(c, name, 0)))
 }
 
 fn throws_nothing(w: &World, m: u32) -> bool

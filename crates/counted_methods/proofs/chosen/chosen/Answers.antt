@@ -12,6 +12,6 @@ returns c =
     let ms = c.args.methods.now in
     let signs = c.in_ok-signs.signs.items in
     let best = get nat_eq c.in_ok-best.best in
-    let is = subst (λ s. IsBest above ms s (length ms) best) c.as_slice.ensures.value c.in_ok-best.ensures in
+    let is = subst (λ s. IsBest w above ms s (length ms) best) c.as_slice.ensures.value c.in_ok-best.ensures in
     if_ok c.kept.result (λ (v : Vec ℕ Global). AreKeptBy best ms c.as_slice-2.result.now v.items) (λ (v : Vec ℕ Global). AreChosen w c.args.c above ms v.items)
     (λ v h. chosen_told w c.args.c above ms signs best v.items c.in_ok-signs.ensures is (subst (λ s. AreKeptBy best ms s v.items) c.as_slice-2.ensures.value h)) c.kept.ensures
