@@ -4,5 +4,6 @@ pub mod Rises
 pub mod Leasts
 pub mod Opens
 pub mod Numbers
+pub mod Shapes
 pub mod Ups
 pub mod Ranks

@@ -25,7 +25,7 @@ numbered_kept old new info None kept h = h
 numbered_kept old new info (Some n) kept h = (h.0, h.1, kept no_name info.params n h.2)
 
 callee_kept : (old new : Steps) (info : MethodInfo) (x : Callee) → KeepsNumbers old new → IsCallee old info x → IsCallee new info x
-callee_kept old new info x kept h = record { owner = h.owner; fixed = h.fixed; params = numbered_kept old new info x.params kept h.params }
+callee_kept old new info x kept h = record { owner = h.owner; name = h.name; arity = h.arity; fixed = h.fixed; params = numbered_kept old new info x.params kept h.params }
 
 pub callees_next : (w : World) (old new : Steps) (callees out : List Callee) (i : ℕ) (info : MethodInfo) (x : Callee) → AreCalleesFirst w old callees i → KeepsNumbers old new
     → slice_get w.methods i ≡ Some info → IsCallee new info x → out ≡ callees ++ x ∷ [] → AreCalleesFirst w new out (i + 1)
@@ -81,6 +81,10 @@ module _ (w : World) (numbers : Steps) (callees : List Callee) (i : ℕ) (apart 
   callees_hold = record {
     size = size;
     owner = λ m x info at there. let h = all.1 m x at in h.2.owner ∙ ap (λ (i : MethodInfo). i.owner) (same_info m h.0 info h.1 there);
+    called = λ m x info at there.
+        let h = all.1 m x at in
+        let same = same_info m h.0 info h.1 there in
+        (h.2.name ∙ ap (λ (i : MethodInfo). i.name) same, h.2.arity ∙ ap (λ (i : MethodInfo). length i.params) same);
     fixed = λ m x at.
         let h = all.1 m x at in (
           λ is. (h.0, h.1, h.2.fixed.0 is),

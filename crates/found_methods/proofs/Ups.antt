@@ -8,7 +8,7 @@ use Rattle.std.proofs.lemmas.List.Elements.{Contains-get_or}
 use Rattle.std.proofs.lemmas.Option.{slice_get_within, get_or_from_slice_get}
 use Rattle.class_world.specs.declared.world.World.{World}
 use Rattle.class_world.specs.Overriding as by
-use Rattle.class_world.specs.Overriding.{IsSuperclass, IsClass, Answers, IsAnswer, IsFixed, IsFound, FoundIs, Overriding, IsFamily, HaveOneParameterList}
+use Rattle.class_world.specs.Overriding.{IsSuperclass, Answers, IsAnswer, IsFixed, IsFound, FoundIs}
 use Rattle.method_ties.proofs.Firsts.{Among, contains_at, among_all}
 use Rattle.overrides.specs.Families.{AreLabels}
 use Rattle.overrides.specs.Tables.{value_at}
@@ -29,31 +29,31 @@ module _ (w : World) (labels : List ℕ) (are : AreLabels w labels) (m l : ℕ) 
   known : m < length w.methods
   known = let lt = slice_get_within labels m l at in let size = are.size in omega (arith, lt, size)
 
-  pub answer_own : (c k : ℕ) → Answers w m c k → IsOwn w labels l c k
-  answer_own c k h =
+  pub answer_own : (o c k : ℕ) → Answers w o m c k → IsOwn w labels l c k
+  answer_own o c k h =
       let alike = (are.each m k known).1 h.2 in
       let one : Some alike.0 ≡ Some l = sym alike.1 ∙ at in
       (h.0, h.1, alike.2 ∙ one)
 
-  pub own_answer : (c k : ℕ) → IsOwn w labels l c k → IsInPlaceOf w k m → Answers w m c k
-  own_answer c k own in_place = (own.0, own.1, (are.each m k known).0 (l, at, own.2), in_place)
+  pub own_answer : (o c k : ℕ) → IsOwn w labels l c k → IsInPlaceOf w o k m → Answers w o m c k
+  own_answer o c k own in_place = (own.0, own.1, (are.each m k known).0 (l, at, own.2), in_place)
 
-  none_own : (c : ℕ) → ((k : ℕ) → IsOwn w labels l c k → ⊥) → (k : ℕ) → Answers w m c k → ⊥
-  none_own c none k h = none k (answer_own c k h)
+  none_own : (o c : ℕ) → ((k : ℕ) → IsOwn w labels l c k → ⊥) → (k : ℕ) → Answers w o m c k → ⊥
+  none_own o c none k h = none k (answer_own o c k h)
 
   -- ---- along the classes that declare none
 
-  pub lift_answer : {c o : ℕ} (k : ℕ) → Rises w labels l c o → IsAnswer w m o k → IsAnswer w m c k
-  lift_answer k rise.here h = h
-  lift_answer k (rise.up {c = c} none only rest) h = by.further (none_own c none) only.0 (lift_answer k rest h)
+  pub lift_answer : {c e : ℕ} (o k : ℕ) → Rises w labels l c e → IsAnswer w o m e k → IsAnswer w o m c k
+  lift_answer o k rise.here h = h
+  lift_answer o k (rise.up {c = c} none only rest) h = by.further (none_own o c none) only.0 (lift_answer o k rest h)
 
-  lower_once : {c s k : ℕ} → ((j : ℕ) → IsOwn w labels l c j → ⊥) → IsOnlySuperclass w c s → IsAnswer w m c k → IsAnswer w m s k
-  lower_once {c = c} {k = k} none only (by.here h first) = absurd (none_own c none k h)
-  lower_once {c = c} {k = k} none only (by.further {s = s} not is h) = subst (λ x. IsAnswer w m x k) (only.1 s is) h
+  lower_once : {c s k : ℕ} (o : ℕ) → ((j : ℕ) → IsOwn w labels l c j → ⊥) → IsOnlySuperclass w c s → IsAnswer w o m c k → IsAnswer w o m s k
+  lower_once {c = c} {k = k} o none only (by.here h first) = absurd (none_own o c none k h)
+  lower_once {c = c} {k = k} o none only (by.further {s = s} not is h) = subst (λ x. IsAnswer w o m x k) (only.1 s is) h
 
-  pub lower_answer : {c o : ℕ} (k : ℕ) → Rises w labels l c o → IsAnswer w m c k → IsAnswer w m o k
-  lower_answer k rise.here h = h
-  lower_answer k (rise.up none only rest) h = lower_answer k rest (lower_once none only h)
+  pub lower_answer : {c e : ℕ} (o k : ℕ) → Rises w labels l c e → IsAnswer w o m c k → IsAnswer w o m e k
+  lower_answer o k rise.here h = h
+  lower_answer o k (rise.up none only rest) h = lower_answer o k rest (lower_once o none only h)
 
   pub meets_lowest : (c end : ℕ) (v : Option ℕ) → Meets w labels l c end v → (o : ℕ) × Rises w labels l c o × LowestIs w labels l o v
   meets_lowest c end None h = (end, h.0, h.1)
@@ -68,49 +68,50 @@ rise_falls w labels most l ranked (rise.up {c = c} {s = s} none only rest) =
 
 -- ---- at the class itself
 
-pub own_some : (w : World) (m c k : ℕ) → OwnAnswerIs w m c (Some k) → IsAnswer w m c k
-own_some w m c k h = by.here h.0 h.1
+pub own_some : (w : World) (o m c k : ℕ) → OwnAnswerIs w o m c (Some k) → IsAnswer w o m c k
+own_some w o m c k h = by.here h.0 h.1
 
 -- an answer further up than a class that has none
-pub answer_above : (w : World) (m c k : ℕ) → OwnAnswerIs w m c None → IsAnswer w m c k → (s : ℕ) × IsSuperclass w c s × IsAnswer w m s k
-answer_above w m c k none (by.here h first) = absurd (none k h)
-answer_above w m c k none (by.further {s = s} not is h) = (s, is, h)
+pub answer_above : (w : World) (o m c k : ℕ) → OwnAnswerIs w o m c None → IsAnswer w o m c k → (s : ℕ) × IsSuperclass w c s × IsAnswer w o m s k
+answer_above w o m c k none (by.here h first) = absurd (none k h)
+answer_above w o m c k none (by.further {s = s} not is h) = (s, is, h)
 
 -- nothing is declared by what is no class
-pub no_answer : (w : World) (m c k : ℕ) → length w.types ≤ c → IsAnswer w m c k → ⊥
-no_answer w m c k past (by.here h first) = let class = h.0 in let lt = slice_get_within w.types c class.0 class.1 in absurd (omega (arith, lt, past))
-no_answer w m c k past (by.further not is h) = let class = is.0 in let lt = slice_get_within w.types c class.0 class.1 in absurd (omega (arith, lt, past))
+pub no_answer : (w : World) (o m c k : ℕ) → length w.types ≤ c → IsAnswer w o m c k → ⊥
+no_answer w o m c k past (by.here h first) = let class = h.0 in let lt = slice_get_within w.types c class.0 class.1 in absurd (omega (arith, lt, past))
+no_answer w o m c k past (by.further not is h) = let class = is.0 in let lt = slice_get_within w.types c class.0 class.1 in absurd (omega (arith, lt, past))
 
 -- what answers for a method is so only for one of the world
-answered_within : (w : World) (m c k : ℕ) → Answers w m c k → m < length w.methods
-answered_within w m c k (class, own, family, inl same) = let lt = slice_get_within w.methods k own.0 own.1.0 in omega (arith, lt, same)
-answered_within w m c k (class, own, family, inr (inl over)) = (overriding_within over).1
-answered_within w m c k (class, own, family, inr (inr one)) = let at = one.3 in slice_get_within w.methods m one.1 at.0
+answered_within : (w : World) (o m c k : ℕ) → Answers w o m c k → m < length w.methods
+answered_within w o m c k (class, own, family, inl same) = let lt = slice_get_within w.methods k own.0 own.1.0 in omega (arith, lt, same)
+answered_within w o m c k (class, own, family, inr (inl over)) = (overriding_within over).1
+answered_within w o m c k (class, own, family, inr (inr (inl one))) = let at = one.3 in slice_get_within w.methods m one.1 at.0
+answered_within w o m c k (class, own, family, inr (inr (inr for))) = (overriding_within for.2).1
 
-answer_within : (w : World) (m : ℕ) {c k : ℕ} → IsAnswer w m c k → m < length w.methods
-answer_within w m (by.here {c = c} {k = k} h first) = answered_within w m c k h
-answer_within w m (by.further not is h) = answer_within w m h
+answer_within : (w : World) (o m : ℕ) {c k : ℕ} → IsAnswer w o m c k → m < length w.methods
+answer_within w o m (by.here {c = c} {k = k} h first) = answered_within w o m c k h
+answer_within w o m (by.further not is h) = answer_within w o m h
 
 -- ---- look-ups
 
 pub nothing_found : (w : World) (m c : ℕ) → length w.methods ≤ m → FoundIs w m c None
 nothing_found w m c past k (by.fixed is) = let lt = slice_get_within w.methods m is.0 is.1 in absurd (omega (arith, lt, past))
-nothing_found w m c past k (by.chosen not h) = let lt = answer_within w m h in absurd (omega (arith, lt, past))
+nothing_found w m c past k (by.chosen not h) = let lt = answer_within w c m h in absurd (omega (arith, lt, past))
 
 pub fixed_found : (w : World) (m c : ℕ) → IsFixed w m → FoundIs w m c (Some m)
 fixed_found w m c is = by.fixed is
 
-none_found : (w : World) (m c k : ℕ) → (IsFixed w m → ⊥) → AnswerIs w m c None → IsFound w m c k → ⊥
+none_found : (w : World) (m c k : ℕ) → (IsFixed w m → ⊥) → AnswerIs w c m c None → IsFound w m c k → ⊥
 none_found w m c k not none (by.fixed is) = not is
 none_found w m c k not none (by.chosen other h) = none k h
 
-pub answer_found : (w : World) (m c : ℕ) (r : Option ℕ) → (IsFixed w m → ⊥) → AnswerIs w m c r → FoundIs w m c r
+pub answer_found : (w : World) (m c : ℕ) (r : Option ℕ) → (IsFixed w m → ⊥) → AnswerIs w c m c r → FoundIs w m c r
 answer_found w m c None not none = λ k h. none_found w m c k not none h
 answer_found w m c (Some k) not h = by.chosen not h
 
 -- ---- the methods of one label that the class declares, in turn
 
-module _ (w : World) (labels : List ℕ) (are : AreLabels w labels) (m l c : ℕ) (at : slice_get labels m ≡ Some l) (list : List ℕ) (group : IsGroup w labels (length w.methods) l c list) where
+module _ (w : World) (labels : List ℕ) (are : AreLabels w labels) (o m l c : ℕ) (at : slice_get labels m ≡ Some l) (list : List ℕ) (group : IsGroup w labels (length w.methods) l c list) where
   before_it : (j i : ℕ) → Contains list j → i < length list → j < get_or list i 0 → Among list i j
   before_it j i has lt low =
       let spot = contains_at list j has in
@@ -128,17 +129,17 @@ module _ (w : World) (labels : List ℕ) (are : AreLabels w labels) (m l c : ℕ
         ]
       ]
 
-  pub first_here : (i : ℕ) → i < length list → IsInPlaceOf w (get_or list i 0) m → ((j : ℕ) → Among list i j → IsInPlaceOf w j m → ⊥) → OwnAnswerIs w m c (Some (get_or list i 0))
+  pub first_here : (i : ℕ) → i < length list → IsInPlaceOf w o (get_or list i 0) m → ((j : ℕ) → Among list i j → IsInPlaceOf w o j m → ⊥) → OwnAnswerIs w o m c (Some (get_or list i 0))
   first_here i lt in_place none = (
-    own_answer w labels are m l at c (get_or list i 0) ((group.each (get_or list i 0)).0 (Contains-get_or list i 0 lt)).1 in_place,
+    own_answer w labels are m l at o c (get_or list i 0) ((group.each (get_or list i 0)).0 (Contains-get_or list i 0 lt)).1 in_place,
     λ j low h.
-        let own = answer_own w labels are m l at c j h in
+        let own = answer_own w labels are m l at o c j h in
         none j (before_it j i ((group.each j).1 (own_within w labels own, own)) lt low) h.3,
   )
 
-  pub none_here : (i : ℕ) → length list ≤ i → ((j : ℕ) → Among list i j → IsInPlaceOf w j m → ⊥) → OwnAnswerIs w m c None
+  pub none_here : (i : ℕ) → length list ≤ i → ((j : ℕ) → Among list i j → IsInPlaceOf w o j m → ⊥) → OwnAnswerIs w o m c None
   none_here i past none k h =
-      let own = answer_own w labels are m l at c k h in
+      let own = answer_own w labels are m l at o c k h in
       none k (among_all list i k past ((group.each k).1 (own_within w labels own, own))) h.3
 
 -- ---- where the search for a label stops
@@ -165,27 +166,27 @@ met_within w labels t l c k firsts value =
 
 -- ---- from the class upwards
 
-module _ (w : World) (labels : List ℕ) (are : AreLabels w labels) (m l : ℕ) (at : slice_get labels m ≡ Some l) where
-  pub found_at : (c o k : ℕ) → Rises w labels l c o → OwnAnswerIs w m o (Some k) → AnswerIs w m c (Some k)
-  found_at c o k rises own = lift_answer w labels are m l at k rises (own_some w m o k own)
+module _ (w : World) (labels : List ℕ) (are : AreLabels w labels) (m l : ℕ) (at : slice_get labels m ≡ Some l) (o : ℕ) where
+  pub found_at : (c e k : ℕ) → Rises w labels l c e → OwnAnswerIs w o m e (Some k) → AnswerIs w o m c (Some k)
+  found_at c e k rises own = lift_answer w labels are m l at o k rises (own_some w o m e k own)
 
-  pub found_above : (c o s k : ℕ) → Rises w labels l c o → OwnAnswerIs w m o None → IsSuperclass w o s → AnswerIs w m s (Some k) → AnswerIs w m c (Some k)
-  found_above c o s k rises none is h = lift_answer w labels are m l at k rises (by.further none is h)
+  pub found_above : (c e s k : ℕ) → Rises w labels l c e → OwnAnswerIs w o m e None → IsSuperclass w e s → AnswerIs w o m s (Some k) → AnswerIs w o m c (Some k)
+  found_above c e s k rises none is h = lift_answer w labels are m l at o k rises (by.further none is h)
 
-  pub none_above : (c o : ℕ) → Rises w labels l c o → OwnAnswerIs w m o None → ((s : ℕ) → IsSuperclass w o s → (k : ℕ) → IsAnswer w m s k → ⊥) → AnswerIs w m c None
-  none_above c o rises none above k h =
-      let further = answer_above w m o k none (lower_answer w labels are m l at k rises h) in
+  pub none_above : (c e : ℕ) → Rises w labels l c e → OwnAnswerIs w o m e None → ((s : ℕ) → IsSuperclass w e s → (k : ℕ) → IsAnswer w o m s k → ⊥) → AnswerIs w o m c None
+  none_above c e rises none above k h =
+      let further = answer_above w o m e k none (lower_answer w labels are m l at o k rises h) in
       above further.0 further.1 k further.2
 
   -- what is answered for the class, where its first methods' own class has this answer
-  pub own_returned : (c o : ℕ) (v : Option ℕ) → Rises w labels l c o → OwnAnswerIs w m o v → (v ≡ None → (s : ℕ) → IsSuperclass w o s → (k : ℕ) → IsAnswer w m s k → ⊥) → AnswerIs w m c v
-  own_returned c o None rises own none = none_above c o rises own (none refl)
-  own_returned c o (Some k) rises own none = found_at c o k rises own
+  pub own_returned : (c e : ℕ) (v : Option ℕ) → Rises w labels l c e → OwnAnswerIs w o m e v → (v ≡ None → (s : ℕ) → IsSuperclass w e s → (k : ℕ) → IsAnswer w o m s k → ⊥) → AnswerIs w o m c v
+  own_returned c e None rises own none = none_above c e rises own (none refl)
+  own_returned c e (Some k) rises own none = found_at c e k rises own
 
   -- or one further up
-  pub above_returned : (c o s : ℕ) (v : Option ℕ) → Rises w labels l c o → OwnAnswerIs w m o None → IsSuperclass w o s → AnswerIs w m s v → (v ≡ None → ⊥) → AnswerIs w m c v
-  above_returned c o s None rises own is h not = absurd (not refl)
-  above_returned c o s (Some k) rises own is h not = found_above c o s k rises own is h
+  pub above_returned : (c e s : ℕ) (v : Option ℕ) → Rises w labels l c e → OwnAnswerIs w o m e None → IsSuperclass w e s → AnswerIs w o m s v → (v ≡ None → ⊥) → AnswerIs w o m c v
+  above_returned c e s None rises own is h not = absurd (not refl)
+  above_returned c e s (Some k) rises own is h not = found_above c e s k rises own is h
 
 -- ---- ranks
 

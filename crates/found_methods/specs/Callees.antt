@@ -30,6 +30,8 @@ KeepsNumbers old new = (a : Name) (ps : List JavaType) (n : ℕ) → number_in o
 -- what is known of one method
 pub record IsCallee (numbers : Steps) (info : MethodInfo) (x : Callee) : Type 0 where
   pub owner : x.owner ≡ info.owner
+  pub name : x.name ≡ info.name
+  pub arity : x.arity ≡ length info.params
   pub fixed : IsTrue x.fixed ↔ IsFixedBy info
   pub params : IsNumbered numbers info x.params
 
@@ -50,5 +52,6 @@ ShareNumber callees m k = (n : ℕ) × (params_of (slice_get callees m) ≡ Some
 pub record AreCallees (w : World) (callees : List Callee) : Type 0 where
   pub size : length callees ≡ length w.methods
   pub owner : (m : ℕ) (x : Callee) (info : MethodInfo) → slice_get callees m ≡ Some x → slice_get w.methods m ≡ Some info → x.owner ≡ info.owner
+  pub called : (m : ℕ) (x : Callee) (info : MethodInfo) → slice_get callees m ≡ Some x → slice_get w.methods m ≡ Some info → (x.name ≡ info.name) × (x.arity ≡ length info.params)
   pub fixed : (m : ℕ) (x : Callee) → slice_get callees m ≡ Some x → IsTrue x.fixed ↔ IsFixed w m
   pub params : (m k : ℕ) → ShareNumber callees m k ↔ HaveOneParameterList w m k

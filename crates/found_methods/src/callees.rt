@@ -11,10 +11,12 @@ use java_tree::tree::{Mod, Name};
 use signature_numbers::SignatureNumbers;
 use std::alloc::Global;
 
-/// A method: its owner, whether no object's class chooses it, and the number of its parameter types where these hold no type variable.
+/// A method: its owner, its name, how many parameters it has, whether no object's class chooses it, and the number of its parameter types where these hold no type variable.
 #[derive(Clone, Copy)]
 pub(crate) struct Callee {
     pub(crate) owner: u32,
+    pub(crate) name: Name,
+    pub(crate) arity: usize,
     pub(crate) fixed: bool,
     pub(crate) params: Option<u32>,
 }
@@ -40,6 +42,8 @@ fn callee_of(numbers: &mut SignatureNumbers, info: &MethodInfo) -> Result<Callee
 {
     Ok(Callee {
         owner: info.owner,
+        name: info.name,
+        arity: info.params.len(),
         fixed: is_fixed(info),
         params: params_of(numbers, info)?,
     })

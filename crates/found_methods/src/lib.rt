@@ -3,13 +3,14 @@
 
 ghost use Rattle.std.specs.Prelude.{◌≡◌, ℕ, ◌<◌, ◌≤◌, ◌↔◌, Some, length, slice_get, IsTrue, IfOk};
 ghost use Rattle.class_world.specs.declared.world.World as worlds;
-ghost use Rattle.class_world.specs.Overriding.{FoundIs};
+ghost use Rattle.class_world.specs.Overriding.{FoundIs, OverridesForOn};
 ghost use Rattle.class_world.specs.Sound.{IsSound};
+ghost use Rattle.member_methods.specs.Methods.{HoldsMethods};
 ghost use Rattle.overrides.specs.Overrides.{HoldsOverrides};
 ghost use Rattle.overrides.specs.Tables.{value_at};
 ghost use Rattle.found_methods.specs.Callees.{ShareNumber, params_of};
 ghost use Rattle.found_methods.specs.Own.{LowestIs};
-ghost use Rattle.found_methods.specs.Found.{AnswerIs, HoldsFound, IsInPlaceOf, OwnAnswerIs, StopsAt};
+ghost use Rattle.found_methods.specs.Found.{AnswerIs, HaveOverriders, HoldsFound, IsInPlaceOf, OwnAnswerIs, StopsAt};
 
 mod callees;
 mod closed;
@@ -24,6 +25,7 @@ use class_world::{World, supers_first};
 use firsts::Firsts;
 use java_tree::{Items, NoMemory};
 use labels::labels_of;
+use member_methods::MethodLists;
 use overrides::Overrides;
 use own::Own;
 use std::alloc::Global;
@@ -70,11 +72,17 @@ impl FoundMethods {
         })
     }
 
-    /// The method that runs where `method` is called on an object of the class (JLS 15.12.4.4), both by number: a constructor, a static and a private method are themselves; else it is the first that the classes from `class` upwards declare, of those of the method's family that are it, override it or have its parameter types. `None` where no class declares one, for an interface and for a number of no method.
+    /// The method that runs where `method` is called on an object of the class (JLS 15.12.4.4), both by number: a constructor, a static and a private method are themselves; else it is the first that the classes from `class` upwards declare, of those of the method's family that are it, override it, have its parameter types, or override a member of `class` that overrides it. `None` where no class declares one, for an interface and for a number of no method.
     ///
-    /// Takes no memory, and mostly two looks at as many nodes as the largest method's number has bits. Where parameter types hold type variables it may have to look again further up, once for each class that declares methods of the family of which none is the answer.
-    pub fn get(&self, overrides: &Overrides, class: u32, method: u32) -> Option<u32>
-        ensures { (w : worlds.World) → HoldsFound w self.now → HoldsOverrides w overrides.now → FoundIs w method class result }
+    /// Takes no memory, and mostly two looks at as many nodes as the largest method's number has bits. Where parameter types hold type variables it may have to look again further up, once for each class that declares methods of the family of which none is the answer. For each method of the family that is met and neither is `method` nor overrides it nor has its parameter types, it also looks at each member of `class` with the name and the number of parameters of `method`: at most two looks for each.
+    pub fn get(
+        &self,
+        overrides: &Overrides,
+        lists: &MethodLists,
+        class: u32,
+        method: u32,
+    ) -> Option<u32>
+        ensures { (w : worlds.World) → HoldsFound w self.now → HoldsOverrides w overrides.now → HoldsMethods w lists.now → FoundIs w method class result }
     {
         if self.callees.get(method as usize)?.fixed {
             return Some(method);
@@ -82,23 +90,31 @@ impl FoundMethods {
         if class as usize >= self.supers.len() {
             return None;
         }
-        self.answer(overrides, method, class, self.most)
+        self.answer(overrides, lists, class, method, class, self.most)
     }
 
-    /// The first answer from the class upwards. `steps` bounds how many classes stand above it.
-    fn answer(&self, overrides: &Overrides, method: u32, class: u32, steps: usize) -> Option<u32>
-        ensures { (w : worlds.World) (holds : HoldsFound w self.now) → HoldsOverrides w overrides.now → method < length w.methods → class < length w.types → holds.ranked.rank class ≤ steps → AnswerIs w method class result }
+    /// The first answer from `class` upwards, for an object of the class `object`. `steps` bounds how many classes stand above `class`.
+    fn answer(
+        &self,
+        overrides: &Overrides,
+        lists: &MethodLists,
+        object: u32,
+        method: u32,
+        class: u32,
+        steps: usize,
+    ) -> Option<u32>
+        ensures { (w : worlds.World) (holds : HoldsFound w self.now) → HoldsOverrides w overrides.now → HoldsMethods w lists.now → method < length w.methods → class < length w.types → holds.ranked.rank class ≤ steps → AnswerIs w object method class result }
     {
         let label = *self.labels.get(method as usize)?;
         let lowest = self.firsts.table.get(class, label);
-        let own = self.own_answer(overrides, method, lowest);
+        let own = self.own_answer(overrides, lists, object, method, lowest);
         if own.is_some() || steps == 0 {
             return own;
         }
         let last = self.last(class, lowest)?;
         let above = self.supers.get(last as usize)?;
         for s in above.as_slice() {
-            let found = self.answer(overrides, method, *s, steps - 1);
+            let found = self.answer(overrides, lists, object, method, *s, steps - 1);
             if found.is_some() {
                 return found;
             }
@@ -106,13 +122,20 @@ impl FoundMethods {
         None
     }
 
-    /// The first answer that a class declares; `lowest` is its lowest method of the same family.
-    fn own_answer(&self, overrides: &Overrides, method: u32, lowest: Option<u32>) -> Option<u32>
-        ensures { (w : worlds.World) (l c : ℕ) → HoldsFound w self.now → HoldsOverrides w overrides.now → slice_get self.now.labels.items method ≡ Some l → LowestIs w self.now.labels.items l c lowest → OwnAnswerIs w method c result }
+    /// The first answer that a class declares, for an object of the class `object`; `lowest` is the class's lowest method of the same family.
+    fn own_answer(
+        &self,
+        overrides: &Overrides,
+        lists: &MethodLists,
+        object: u32,
+        method: u32,
+        lowest: Option<u32>,
+    ) -> Option<u32>
+        ensures { (w : worlds.World) (l c : ℕ) → HoldsFound w self.now → HoldsOverrides w overrides.now → HoldsMethods w lists.now → slice_get self.now.labels.items method ≡ Some l → LowestIs w self.now.labels.items l c lowest → OwnAnswerIs w object method c result }
     {
         let group = self.groups.get(lowest? as usize)?;
         for k in group.as_slice() {
-            if self.is_in_place_of(overrides, *k, method) {
+            if self.is_in_place_of(overrides, lists, object, *k, method) {
                 return Some(*k);
             }
         }
@@ -129,14 +152,53 @@ impl FoundMethods {
         }
     }
 
-    /// Whether the method `k` is `m`, overrides it or has its parameter types.
-    fn is_in_place_of(&self, overrides: &Overrides, k: u32, m: u32) -> bool
-        ensures { (w : worlds.World) → HoldsFound w self.now → HoldsOverrides w overrides.now → IsTrue result ↔ IsInPlaceOf w k m }
+    /// Whether on an object of the class `object` the method `k` is `m`, overrides it, has its parameter types, or overrides a member that overrides it. The members are looked at last: most calls need none of them.
+    fn is_in_place_of(
+        &self,
+        overrides: &Overrides,
+        lists: &MethodLists,
+        object: u32,
+        k: u32,
+        m: u32,
+    ) -> bool
+        ensures { (w : worlds.World) → HoldsFound w self.now → HoldsOverrides w overrides.now → HoldsMethods w lists.now → IsTrue result ↔ IsInPlaceOf w object k m }
     {
         if k == m {
             return true;
         }
-        overrides.overrides(k, m) || self.have_one_number(k, m)
+        if overrides.overrides(k, m) || self.have_one_number(k, m) {
+            return true;
+        }
+        self.overrides_for(overrides, lists, object, k, m)
+    }
+
+    /// Whether the method `k` overrides a member of the class `object` that overrides `m`.
+    fn overrides_for(
+        &self,
+        overrides: &Overrides,
+        lists: &MethodLists,
+        object: u32,
+        k: u32,
+        m: u32,
+    ) -> bool
+        ensures { (w : worlds.World) → HoldsFound w self.now → HoldsOverrides w overrides.now → HoldsMethods w lists.now → IsTrue result ↔ OverridesForOn w object k m }
+    {
+        for t in self.members_like(lists, object, m) {
+            if overrides.overrides(*t, m) && overrides.overrides(k, *t) {
+                return true;
+            }
+        }
+        false
+    }
+
+    /// The members of the class `object` with the name and the number of parameters of `m`: those that override it are among them.
+    fn members_like<'a>(&self, lists: &'a MethodLists, object: u32, m: u32) -> &'a [u32]
+        ensures { (w : worlds.World) → HoldsFound w self.now → HoldsMethods w lists.now → HaveOverriders w object m result.now }
+    {
+        match self.callees.get(m as usize) {
+            Some(callee) => lists.named(object, callee.name, callee.arity),
+            None => &[],
+        }
     }
 
     /// Whether two methods have one list of parameter types, without type variables.

@@ -70,6 +70,6 @@ impl Members {
     pub fn lookup(&self, class: u32, method: u32) -> Option<u32>
         ensures { (w : worlds.World) → HoldsMembers w self.now → FoundIs w method class result }
     {
-        self.found.get(&self.overrides, class, method)
+        self.found.get(&self.overrides, &self.lists, class, method)
     }
 }
