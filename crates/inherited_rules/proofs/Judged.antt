@@ -5,19 +5,22 @@ use Rattle.std.specs.List.{Contains}
 use Rattle.std.proofs.lemmas.Bool.{cases_eq, eq-eqb, ne_eqb, cond-true, cond-false}
 use Rattle.class_world.specs.declared.world.World.{World}
 use Rattle.class_world.specs.declared.world.JavaType.{JavaType}
-use Rattle.class_world.specs.Sound.{IsSound}
+use Rattle.class_world.specs.Sound.{IsKnown, IsSound}
+use Rattle.class_world.specs.Typed.{HaveTypes}
 use Rattle.class_world.specs.Signatures.{HaveOneSignatureIn}
+use Rattle.class_world.specs.Overriding.{Overriding}
 use Rattle.seen_methods.specs.Seen.{HasResult, TellsResult}
 use Rattle.numbered_methods.specs.declared.NumberedMethods.{NumberedMethods}
 use Rattle.numbered_methods.specs.Alike.{AreAlike, IsNumbered}
 use Rattle.method_ties.proofs.Firsts.{Among, among_all, at_contains}
 use Rattle.inherited_rules.specs.declared.chain.Results.{Results}
 use Rattle.inherited_rules.specs.Rules.{FitsResult, HasUnlikeResults, IsInherited}
-use Rattle.inherited_rules.specs.Parts.{AreJudged, AreUnlike, HasUnlikePair, IsJudged, IsUnlike}
+use Rattle.inherited_rules.specs.Parts.{AreJudged, AreOverriddenBy, AreUnlike, AreUnresolved, HasMembers, HasUnresolved, HasUnresolvedPair, IsJudged, IsTop, IsUnlike, IsUnresolvedWith}
 use Rattle.inherited_rules.specs.Chains.{AreKept, HasUnlike, IsAdded, IsAmong}
 use Rattle.inherited_rules.proofs.Chained.{fits_itself}
 use Rattle.inherited_rules.proofs.Members.{one_result}
-use Rattle.inherited_rules.proofs.Named.{lower_or_last}
+use Rattle.inherited_rules.proofs.Named.{AreClear, all_clear, lower_or_last}
+use Rattle.inherited_rules.proofs.Overriders.{overriding_alike}
 use Rattle.inherited_rules.proofs.Pairs.{signature_swap, signature_through}
 
 -- ---- the results of methods
@@ -107,28 +110,67 @@ module _ (w : World) (c : ℕ) where
   result_told m old new r (Ok u) is added = result_added m old new r u is added
   result_told m old new r (Err e) is added = tt
 
+  -- ---- unlike results of which none overrides both
+
+  unlike_swap : (m k : ℕ) → AreUnlike w c m k → AreUnlike w c k m
+  unlike_swap m k u = (u.1, u.0, u.3, u.2, (u.4.1, u.4.0))
+
+  overridden_swap : (Top : ℕ → Type 0) (m k : ℕ) → AreOverriddenBy w Top m k → AreOverriddenBy w Top k m
+  overridden_swap Top m k o = (o.0, o.1, o.3, o.2)
+
+  unresolved_swap : (Top : ℕ → Type 0) (m k : ℕ) → AreUnresolved w c Top m k → AreUnresolved w c Top k m
+  unresolved_swap Top m k u = (unlike_swap m k u.0, λ o. u.1 (overridden_swap Top k m o))
+
+  -- where the same ones may override
+  pub unresolved_alike : (Top Other : ℕ → Type 0) (ms : List ℕ) → ((t : ℕ) → Top t ↔ Other t) → HasUnresolved w c Top ms ↔ HasUnresolved w c Other ms
+  unresolved_alike Top Other ms same = (
+    λ h. (h.0, h.1, h.2, h.3, (h.4.0, λ o. h.4.1 (o.0, (same o.0).1 o.1, o.2, o.3))),
+    λ h. (h.0, h.1, h.2, h.3, (h.4.0, λ o. h.4.1 (o.0, (same o.0).0 o.1, o.2, o.3))),
+  )
+
+  -- each pair has one that the first does not override
+  pub all_beside : (tops ms : List ℕ) (first i : ℕ) → Contains tops first → AreClear (λ m. (Overriding w first m → ⊥) × IsUnresolvedWith w c (Contains tops) ms m) ms i → length ms ≤ i
+      → HasUnresolved w c (Contains tops) ms → ⊥
+  all_beside tops ms first i has clear full h =
+      let P = λ (m : ℕ). (Overriding w first m → ⊥) × IsUnresolvedWith w c (Contains tops) ms m in
+      all_clear P ms i clear full h.0 h.2 (
+        λ over. all_clear P ms i clear full h.1 h.3 (λ other. h.4.1 (first, has, over, other), (h.0, h.2, unresolved_swap (Contains tops) h.0 h.1 h.4)),
+        (h.1, h.3, h.4),
+      )
+
   -- ---- those of one signature
 
-  module _ (sound : IsSound w) (ms : List ℕ) (m : ℕ) (t : NumberedMethods) (xs : List ℕ) (numbered : IsNumbered w c ms t) (told : (d : ℕ) (ms : List ℕ) → IsNumbered w d ms t → AreAlike w d m ms xs) where
+  module _ (sound : IsSound w) (typed : HaveTypes w) (known : IsKnown w c) (ms : List ℕ) (m : ℕ) (t : NumberedMethods) (xs : List ℕ) (members : HasMembers w c ms t)
+      (told : (d : ℕ) (ms : List ℕ) → IsNumbered w d ms t → AreAlike w d m ms xs) where
     alike : (k : ℕ) → Contains xs k ↔ (Contains ms k × HaveOneSignatureIn w c m k)
-    alike = (told c ms numbered).0
+    alike = (told c ms members.0).0
 
-    pub alike_unlike : ((m : ℕ) × (k : ℕ) × Contains xs m × Contains xs k × AreUnlike w c m k) → HasUnlikePair w c ms
-    alike_unlike h =
+    -- what overrides one of these is one of these
+    over_alike : (x k : ℕ) → Contains xs x → Contains ms k → Overriding w k x → Contains xs k
+    over_alike x k has there over =
+        let a = (alike x).0 has in
+        let one = overriding_alike w sound typed c k x known (members.1 k there) (members.1 x a.0) over in
+        (alike k).1 (there, signature_through w sound c x m k (signature_swap w c m x a.1) one)
+
+    pub alike_unresolved : HasUnresolved w c (IsTop w xs) xs → HasUnresolvedPair w c ms
+    alike_unresolved h =
         let a = (alike h.0).0 h.2 in
         let b = (alike h.1).0 h.3 in
-        (h.0, h.1, a.0, b.0, signature_through w sound c m h.0 h.1 a.1 b.1, h.4)
+        (h.0, h.1, a.0, b.0, signature_through w sound c m h.0 h.1 a.1 b.1, (h.4.0, λ o. h.4.1 (o.0, (over_alike h.0 o.0 h.2 o.1.0 o.2, o.1.1), o.2, o.3)))
 
-    like_judged : ((m k : ℕ) → Contains xs m → Contains xs k → AreUnlike w c m k → ⊥) → (x : ℕ) → Contains xs x → IsJudged w c ms x
-    like_judged like x has k there one unlike =
+    among_these : (x k : ℕ) → AreUnresolved w c (IsTop w ms) x k → AreUnresolved w c (IsTop w xs) x k
+    among_these x k u = (u.0, λ o. u.1 (o.0, (((alike o.0).0 o.1.0).0, o.1.1), o.2, o.3))
+
+    like_judged : (HasUnresolved w c (IsTop w xs) xs → ⊥) → (x : ℕ) → Contains xs x → IsJudged w c ms x
+    like_judged none x has k there one unresolved =
         let a = (alike x).0 has in
-        like x k has ((alike k).1 (there, signature_through w sound c x m k (signature_swap w c m x a.1) one)) unlike
+        none (x, k, has, (alike k).1 (there, signature_through w sound c x m k (signature_swap w c m x a.1) one), among_these x k unresolved)
 
-    pub all_judged : (old new : ℕ → Bool) → ((m k : ℕ) → Contains xs m → Contains xs k → AreUnlike w c m k → ⊥) → ((x : ℕ) → (new x ≡ true) ↔ ((old x ≡ true) ⊎ Contains xs x)) → Contains ms m → AreJudged w c ms old
+    pub all_judged : (old new : ℕ → Bool) → (HasUnresolved w c (IsTop w xs) xs → ⊥) → ((x : ℕ) → (new x ≡ true) ↔ ((old x ≡ true) ⊎ Contains xs x)) → Contains ms m → AreJudged w c ms old
         → IsJudged w c ms m × AreJudged w c ms new
-    all_judged old new like both there judged = (
-      λ k has one unlike. like m k ((alike m).1 (there, signature_through w sound c k m m (signature_swap w c m k one) (signature_swap w c m k one))) ((alike k).1 (has, one)) unlike,
-      λ x h. elim ((both x).0 h) [ inl was ↦ judged x was | inr has ↦ like_judged like x has ],
+    all_judged old new none both there judged = (
+      λ k has one unresolved. none (m, k, (alike m).1 (there, signature_through w sound c k m m (signature_swap w c m k one) (signature_swap w c m k one)), (alike k).1 (has, one), among_these m k unresolved),
+      λ x h. elim ((both x).0 h) [ inl was ↦ judged x was | inr has ↦ like_judged none x has ],
     )
 
   -- ---- all methods
@@ -136,20 +178,20 @@ module _ (w : World) (c : ℕ) where
   pub judged_next : (ms : List ℕ) (i m : ℕ) → ((x : ℕ) → Among ms i x → IsJudged w c ms x) → slice_get ms i ≡ Some m → IsJudged w c ms m → (x : ℕ) → Among ms (i + 1) x → IsJudged w c ms x
   judged_next ms i m judged at is x among = elim (among_next ms i x m at among) [ inl before ↦ judged x before | inr same ↦ subst (IsJudged w c ms) (sym same) is ]
 
-  pub no_pair : (ms : List ℕ) (i : ℕ) → length ms ≤ i → ((x : ℕ) → Among ms i x → IsJudged w c ms x) → HasUnlikePair w c ms → ⊥
+  pub no_pair : (ms : List ℕ) (i : ℕ) → length ms ≤ i → ((x : ℕ) → Among ms i x → IsJudged w c ms x) → HasUnresolvedPair w c ms → ⊥
   no_pair ms i full judged h = judged h.0 (among_all ms i h.0 full h.2) h.1 h.3 h.4 h.5
 
-  pub pair_of : (ms : List ℕ) → ((k : ℕ) → Contains ms k ↔ IsInherited w c k) → HasUnlikePair w c ms ↔ HasUnlikeResults w c
+  pub pair_of : (ms : List ℕ) → ((k : ℕ) → Contains ms k ↔ IsInherited w c k) → HasUnresolvedPair w c ms ↔ HasUnlikeResults w c
   pair_of ms has = (
     λ h.
-        let unlike = h.5 in
-        (h.0, h.1, (has h.0).0 h.2, (has h.1).0 h.3, h.4, unlike.0, unlike.1, unlike.2, unlike.3, unlike.4.0, unlike.4.1),
-    λ h. (h.0, h.1, (has h.0).1 h.2, (has h.1).1 h.3, h.4, (h.5, h.6, h.7, h.8, (h.9, h.10))),
+        let unlike = h.5.0 in
+        (h.0, h.1, (has h.0).0 h.2, (has h.1).0 h.3, h.4, (λ o. h.5.1 (o.0, ((has o.0).1 o.1, o.2), o.3, o.4)), unlike.0, unlike.1, unlike.2, unlike.3, unlike.4.0, unlike.4.1),
+    λ h. (h.0, h.1, (has h.0).1 h.2, (has h.1).1 h.3, h.4, ((h.6, h.7, h.8, h.9, (h.10, h.11)), λ o. h.5 (o.0, (has o.0).0 o.1.0, o.1.1, o.2, o.3))),
   )
 
   -- where no two methods have one signature
   pub none_unlike : IsSound w → ((m k : ℕ) → IsInherited w c m → IsInherited w c k → HaveOneSignatureIn w c m k → m ≡ k) → HasUnlikeResults w c → ⊥
   none_unlike sound single h =
       let same = single h.0 h.1 h.2 h.3 h.4 in
-      let one = one_result w sound c h.0 h.5 h.6 h.7 (subst (λ k. HasResult w c k h.6) (sym same) h.8) in
-      h.9 (subst (FitsResult w h.5) one (fits_itself w h.5))
+      let one = one_result w sound c h.0 h.6 h.7 h.8 (subst (λ k. HasResult w c k h.7) (sym same) h.9) in
+      h.10 (subst (FitsResult w h.6) one (fits_itself w h.6))

@@ -200,4 +200,4 @@ once_namesakes w m k (overriding.inherited {c = c} h both agree) = signature_nam
 -- a method has the name and the number of parameters of what it overrides
 pub overriding_namesakes : (w : World) (m k : ℕ) → Overriding w m k → AreNamesakes w m k
 overriding_namesakes w m k (at_once h) = once_namesakes w m k h
-overriding_namesakes w m k (through {t = t} h rest other agree) = namesakes_on w m t k (once_namesakes w m t h) (overriding_namesakes w t k rest)
+overriding_namesakes w m k (through {t = t} h rest other agree) = namesakes_on w m t k (overriding_namesakes w m t h) (overriding_namesakes w t k rest)

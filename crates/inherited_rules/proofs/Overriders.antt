@@ -36,7 +36,7 @@ module _ (w : World) (sound : IsSound w) (typed : HaveTypes w) where
   overriding_agrees m k (through {t = t} h rest other agree) = agree
 
   -- of two members one that overrides the other has its signature
-  overriding_alike : (c k m : ℕ) → IsKnown w c → IsMemberMethod w c k → IsMemberMethod w c m → Overriding w k m → HaveOneSignatureIn w c m k
+  pub overriding_alike : (c k m : ℕ) → IsKnown w c → IsMemberMethod w c k → IsMemberMethod w c m → Overriding w k m → HaveOneSignatureIn w c m k
   overriding_alike c k m known member other h =
       let a = member_seen w sound c k member known.0 known.1 in
       let b = member_seen w sound c m other known.0 known.1 in

@@ -8,6 +8,7 @@ use Rattle.class_world.specs.Sound.{IsOfWorld}
 use Rattle.class_world.specs.Signatures.{HaveOneSignatureIn}
 use Rattle.class_world.specs.Inheritance.{IsMemberMethod}
 use Rattle.class_world.specs.Overriding.{Overriding}
+use Rattle.class_world.specs.Counted.{IsOfClass}
 use Rattle.rule_order.specs.First.{Breaches}
 use Rattle.seen_methods.specs.Seen.{HasResult}
 use Rattle.numbered_methods.specs.declared.NumberedMethods.{NumberedMethods}
@@ -43,13 +44,37 @@ IsUnlike w r q = (FitsResult w r q → ⊥) × (FitsResult w q r → ⊥)
 abbrev pub AreUnlike : World → ℕ → ℕ → ℕ → Type 0
 AreUnlike w c m k = (r : Option JavaType) × (q : Option JavaType) × HasResult w c m r × HasResult w c k q × IsUnlike w r q
 
--- two of the methods have one signature in c, and unlike results
-abbrev pub HasUnlikePair : World → ℕ → List ℕ → Type 0
-HasUnlikePair w c ms = (m : ℕ) × (k : ℕ) × Contains ms m × Contains ms k × HaveOneSignatureIn w c m k × AreUnlike w c m k
+-- one of these methods overrides both
+abbrev pub AreOverriddenBy : World → (ℕ → Type 0) → ℕ → ℕ → Type 0
+AreOverriddenBy w Top m k = (t : ℕ) × Top t × Overriding w t m × Overriding w t k
 
--- none of the methods has the signature of m and an unlike result
+-- the results of two methods are unlike, and none of these methods overrides both
+abbrev pub AreUnresolved : World → ℕ → (ℕ → Type 0) → ℕ → ℕ → Type 0
+AreUnresolved w c Top m k = AreUnlike w c m k × (AreOverriddenBy w Top m k → ⊥)
+
+-- one of the list that a class declares
+abbrev pub IsTop : World → List ℕ → ℕ → Type 0
+IsTop w ms t = Contains ms t × IsOfClass w t
+
+-- m and one of the list are unlike and not overridden so
+abbrev pub IsUnresolvedWith : World → ℕ → (ℕ → Type 0) → List ℕ → ℕ → Type 0
+IsUnresolvedWith w c Top ms m = (k : ℕ) × Contains ms k × AreUnresolved w c Top m k
+
+-- two of the list are unlike and not overridden so
+abbrev pub HasUnresolved : World → ℕ → (ℕ → Type 0) → List ℕ → Type 0
+HasUnresolved w c Top ms = (m : ℕ) × (k : ℕ) × Contains ms m × Contains ms k × AreUnresolved w c Top m k
+
+-- two of the methods have one signature in c and unlike results, and none of them that a class declares overrides both
+abbrev pub HasUnresolvedPair : World → ℕ → List ℕ → Type 0
+HasUnresolvedPair w c ms = (m : ℕ) × (k : ℕ) × Contains ms m × Contains ms k × HaveOneSignatureIn w c m k × AreUnresolved w c (IsTop w ms) m k
+
+-- the table has these members of c, as c sees them
+abbrev pub HasMembers : World → ℕ → List ℕ → NumberedMethods → Type 0
+HasMembers w c ms t = IsNumbered w c ms t × ((k : ℕ) → Contains ms k → IsMemberMethod w c k)
+
+-- m has no such pair with a method of its signature
 abbrev pub IsJudged : World → ℕ → List ℕ → ℕ → Type 0
-IsJudged w c ms m = (k : ℕ) → Contains ms k → HaveOneSignatureIn w c m k → AreUnlike w c m k → ⊥
+IsJudged w c ms m = (k : ℕ) → Contains ms k → HaveOneSignatureIn w c m k → AreUnresolved w c (IsTop w ms) m k → ⊥
 
 -- so for each method of a set
 abbrev pub AreJudged : World → ℕ → List ℕ → (ℕ → Bool) → Type 0

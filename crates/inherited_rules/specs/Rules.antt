@@ -13,6 +13,7 @@ use Rattle.class_world.specs.Access.{IsInterface}
 use Rattle.class_world.specs.Signatures.{IsMethod, HaveOneSignatureIn}
 use Rattle.class_world.specs.Inheritance.{DeclaresMethod, IsMemberMethod}
 use Rattle.class_world.specs.Overriding.{Overriding}
+use Rattle.class_world.specs.Counted.{IsOfClass}
 use Rattle.seen_methods.specs.Seen.{HasResult}
 
 -- by its modifier, or as a method of an interface (9.4)
@@ -38,10 +39,14 @@ FitsResult w _ _ = ⊥
 abbrev pub IsInherited : World → ℕ → ℕ → Type 0
 IsInherited w c m = IsMemberMethod w c m × (DeclaresMethod w c m → ⊥)
 
--- DR19: the type inherits two methods of one signature, and neither result fits the other
+-- a method that a class declares, and the type inherits, overrides both
+abbrev pub AreOverridden : World → ℕ → ℕ → ℕ → Type 0
+AreOverridden w c m k = (t : ℕ) × IsInherited w c t × IsOfClass w t × Overriding w t m × Overriding w t k
+
+-- DR19: the type inherits two methods of one signature, neither result fits the other, and no method of a class that it inherits overrides both
 abbrev pub HasUnlikeResults : World → ℕ → Type 0
 HasUnlikeResults w c =
-    (m : ℕ) × (k : ℕ) × IsInherited w c m × IsInherited w c k × HaveOneSignatureIn w c m k
+    (m : ℕ) × (k : ℕ) × IsInherited w c m × IsInherited w c k × HaveOneSignatureIn w c m k × (AreOverridden w c m k → ⊥)
     × (r : Option JavaType) × (q : Option JavaType) × HasResult w c m r × HasResult w c k q × (FitsResult w r q → ⊥) × (FitsResult w q r → ⊥)
 
 -- two methods have one name and one list of erased parameter types, as they are declared (8.4.2)

@@ -4,7 +4,7 @@ ghost use Rattle.std.specs.Prelude.{◌≡◌, ◌↔◌, IsTrue};
 ghost use Rattle.class_world.specs.Types.{IsReference};
 ghost use Rattle.class_world.specs.Sound.{IsSound};
 ghost use Rattle.inherited_rules.specs.Rules.{FitsResult};
-ghost use Rattle.inherited_rules.specs.Parts.{IsResult};
+ghost use Rattle.inherited_rules.specs.Parts.{IsResult, IsUnlike};
 ghost use Rattle.inherited_rules.specs.Chains.{IsBelow};
 
 use class_world::{JavaType, World, fits, is_same, is_sub};
@@ -22,6 +22,15 @@ pub(crate) fn fits_result(w: &World, r: &Option<JavaType>, q: &Option<JavaType>)
             Some(t) => is_same(s, t) || (is_reference(s) && is_reference(t) && fits(w, s, t)),
         },
     }
+}
+
+/// Whether neither result fits the other.
+pub(crate) fn is_unlike(w: &World, r: &Option<JavaType>, q: &Option<JavaType>) -> bool
+    requires sound { IsSound w.now }
+    requires types { IsResult w.now r.now × IsResult w.now q.now }
+    ensures { IsTrue result ↔ IsUnlike w.now r.now q.now }
+{
+    !fits_result(w, r, q) && !fits_result(w, q, r)
 }
 
 /// Whether it is the same or a subtype, so that it fits without an unchecked conversion.

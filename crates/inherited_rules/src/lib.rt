@@ -9,5 +9,6 @@ mod methods;
 mod numbers;
 mod results;
 mod search;
+mod unresolved;
 
 pub use search::first_inherited_breach;

@@ -7,6 +7,8 @@ ghost use Rattle.class_world.specs.declared.world.MethodInfo as infos;
 ghost use Rattle.class_world.specs.Access.{IsInterface};
 ghost use Rattle.class_world.specs.Signatures.{IsMethod};
 ghost use Rattle.class_world.specs.Inheritance.{DeclaresMethod};
+ghost use Rattle.class_world.specs.Overriding.{IsClass};
+ghost use Rattle.class_world.specs.Counted.{IsOfClass};
 ghost use Rattle.inherited_rules.specs.Rules.{IsAbstractMethod};
 
 use class_world::{MethodInfo, World};
@@ -50,6 +52,25 @@ fn is_interface(w: &World, c: u32) -> bool
 {
     match w.types.get(c as usize) {
         Some(info) => info.interface,
+        None => false,
+    }
+}
+
+/// Whether a class declares the method.
+pub(crate) fn is_of_class(w: &World, m: u32) -> bool
+    ensures { IsTrue result ↔ IsOfClass w.now m }
+{
+    match method_of(w, m) {
+        Some(info) => is_class(w, info.owner),
+        None => false,
+    }
+}
+
+fn is_class(w: &World, c: u32) -> bool
+    ensures { IsTrue result ↔ IsClass w.now c }
+{
+    match w.types.get(c as usize) {
+        Some(info) => !info.interface,
         None => false,
     }
 }

@@ -23,7 +23,7 @@ use std::alloc::Global;
 
 /// The first of DR18 to DR20 that is broken: at the first type by node, and there the lowest number. `NoMemory` also where there are 2^32 types.
 ///
-/// Takes time for the member methods of the types that have a node. For DR19 the inherited ones of a type are numbered by their signatures where two have one erased signature, or one has type variables in its parameter types and is not the type's only member of its name and number of parameters; the different results of one signature are put in the order of their types by halving, those without arguments apart from the others, and each of the first is then asked against the others by halving. For DR18 an abstract one is compared with at most four others, or with the bodies of its signature.
+/// Takes time for the member methods of the types that have a node. For DR19 the inherited ones of a type are numbered by their signatures where two have one erased signature, or one has type variables in its parameter types and is not the type's only member of its name and number of parameters; the different results of one signature are put in the order of their types by halving, those without arguments apart from the others, and each of the first is then asked against the others by halving. Where two are unlike and classes declare some of the signature, each method that the first of these does not override is compared with all others, and each of these is asked whether it overrides both; so this takes more than a step for each method only where several methods of classes become one signature, or type variables in parameter types keep an instance method from overriding. For DR18 an abstract one is compared with at most four others, or with the bodies of its signature.
 pub fn first_inherited_breach(
     alloc: Global,
     w: &World,
@@ -100,7 +100,7 @@ fn lowest_rule(
     if lacks_body(alloc, w, lists, overrides, c, members)? {
         return Ok(Some(18));
     }
-    if has_unlike_results(alloc, w, lists, numbers, c, members)? {
+    if has_unlike_results(alloc, w, lists, overrides, numbers, c, members)? {
         return Ok(Some(19));
     }
     if has_clash(alloc, w, numbers, c, members)? {

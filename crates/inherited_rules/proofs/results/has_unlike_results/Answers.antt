@@ -15,6 +15,11 @@ returns-then-not-branch c = (
 pub of-requires-clause-once : goal.of-requires-clause-once
 of-requires-clause-once c = once_rising c.as_slice-inherited.result.now (subst IsStrictlyIncreasing (sym c.as_slice-inherited.ensures.value) c.in_ok-inherited.ensures.ascending)
 
+pub has_unresolved_pair-requires-clause-table : goal.has_unresolved_pair-requires-clause-table
+has_unresolved_pair-requires-clause-table c =
+    let has = subst (λ (l : List ℕ). (k : ℕ) → Contains l k ↔ IsInherited c.args.w.now c.args.c k) (sym c.as_slice-inherited.ensures.value) c.in_ok-inherited.ensures.has in
+    (c.in_ok-table.ensures, λ k h. ((has k).0 h).0)
+
 pub returns : goal.returns
 returns c =
     let w = c.args.w.now in

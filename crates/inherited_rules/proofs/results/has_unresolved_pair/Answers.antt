@@ -3,7 +3,7 @@ use Rattle.std.specs.List.{list_any}
 use Rattle.std.proofs.lemmas.Option.{slice_get-get_or}
 use Rattle.method_ties.proofs.Firsts.{at_contains}
 use Rattle.inherited_rules.proofs.Judged.{judged_next, no_pair}
-use Rattle.inherited_rules.proofs.results.has_unlike_pair.Goals as goal
+use Rattle.inherited_rules.proofs.results.has_unresolved_pair.Goals as goal
 
 pub loop-m-init : goal.loop-m-init
 loop-m-init c = (

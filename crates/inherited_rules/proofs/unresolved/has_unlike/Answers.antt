@@ -1,7 +1,7 @@
 use Rattle.std.proofs.Common.{refl, get_or}
 use Rattle.std.proofs.lemmas.Option.{slice_get-get_or}
 use Rattle.inherited_rules.proofs.Judged.{seen_none, seen_next, seen_unlike, seen_pair, seen_like}
-use Rattle.inherited_rules.proofs.results.has_unlike.Goals as goal
+use Rattle.inherited_rules.proofs.unresolved.has_unlike.Goals as goal
 
 pub loop-m-init : goal.loop-m-init
 loop-m-init c = seen_none c.args.w.now c.args.c c.args.methods.now c.new-results.result (c.new-results.ensures.kept c.args.w.now) c.new-results.ensures.none

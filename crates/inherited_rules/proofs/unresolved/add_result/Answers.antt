@@ -2,7 +2,7 @@ use Rattle.std.proofs.Common.{inl, inr, subst}
 use Rattle.seen_methods.specs.Seen.{TellsResult}
 use Rattle.inherited_rules.proofs.Judged.{result_told}
 use Rattle.inherited_rules.proofs.Members.{result_of_world}
-use Rattle.inherited_rules.proofs.results.add_result.Goals as goal
+use Rattle.inherited_rules.proofs.unresolved.add_result.Goals as goal
 
 pub add-requires-clause-result : goal.add-requires-clause-result
 add-requires-clause-result c =
