@@ -6,7 +6,6 @@ ghost use Rattle.class_world.specs.declared.world.JavaType as types;
 ghost use Rattle.class_world.specs.declared.world.World as worlds;
 ghost use Rattle.class_world.specs.Sound.{IsSound};
 ghost use Rattle.class_world.specs.Typed.{HaveTypes};
-ghost use Rattle.class_world.specs.Counted.{IsOfClass};
 ghost use Rattle.class_world.specs.Overriding.{Overriding};
 ghost use Rattle.overrides.specs.Overrides.{HoldsOverrides};
 ghost use Rattle.seen_methods.specs.Seen.{HasResult};
