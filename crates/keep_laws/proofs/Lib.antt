@@ -6,3 +6,9 @@ pub mod Steps
 pub mod Kept
 pub mod Calls
 pub mod Corresponds
+pub mod MappedLists
+pub mod StillTypes
+pub mod KeptDecls
+pub mod KeptRules
+pub mod SmallDecls
+pub mod DeclaredKept

@@ -1,16 +1,22 @@
 -- When a local of main may be declared of another type.
-use Rattle.std.specs.Prelude.{◌≡◌, ℕ, if◌then◌else◌, ◌==◌, Option, Some}
+use Rattle.std.specs.Prelude.{◌≡◌, ℕ, if◌then◌else◌, ◌==◌, [], ◌∷◌, Option, Some}
 use Rattle.java_tree.specs.declared.tree.Name.{Name}
 use Rattle.java_tree.specs.declared.tree.Node.{Node}
 use Rattle.java_tree.specs.Plain.{SourceUnit}
 use Rattle.class_world.specs.declared.world.World.{World}
 use Rattle.class_world.specs.Members.{IsChosen}
+use Rattle.built_in_types.specs.declared.words.Words.{Words}
+use Rattle.decl_table.specs.Program.{Program}
 use Rattle.java_typing.specs.declared.table.Use.{Use}
 use Rattle.java_typing.specs.declared.table.Use.TheVariants as use_of
 use Rattle.java_typing.specs.Main.{before_last}
 use Rattle.java_typing.specs.WorldOf.{place_of}
 use Rattle.java_typing.specs.Typing.{Annotation}
 use Rattle.constraint_terms.specs.Question.{Local}
+
+-- the program of one user file
+abbrev pub one_file : Words → SourceUnit → Program
+one_file words u = record { words = words; user = u ∷ []; lib = [] }
 
 -- the number in the table of names is the simple name of a type that main may name
 abbrev pub IsNameOf : SourceUnit → ℕ → ℕ → Type 0

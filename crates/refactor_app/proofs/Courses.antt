@@ -34,7 +34,7 @@ use Rattle.refactor_app.specs.declared.status.Status.{Status}
 use Rattle.refactor_app.specs.declared.status.Status.TheVariants as s
 use Rattle.refactor_app.specs.declared.decide.Changed.{Changed}
 use Rattle.refactor_app.specs.Words.{Request, inputs, IsAlone, Asks, AskOther, out_name}
-use Rattle.refactor_app.specs.Verdicts.{Refuses}
+use Rattle.refactor_app.specs.Verdicts.{Refuses, Changes}
 use Rattle.refactor_app.specs.Declarations.{AreDeclared}
 use Rattle.refactor_app.specs.Decided.{IsChange}
 use Rattle.refactor_app.specs.Refusals.{AsksFew, HasDeclared, Refusal}
@@ -43,6 +43,7 @@ use Rattle.refactor_app.specs.Answers.{Ends}
 use Rattle.refactor_app.specs.Course.{Moment, EndsAt, Finishes, Sequel, Course, IsAsked}
 use Rattle.refactor_app.specs.Course as way
 use Rattle.refactor_app.specs.Stops.{Stops, TellsStop, IsNamed}
+use Rattle.refactor_app.proofs.Declaring.{still_declared}
 
 pub refuse : (q : Request) (text line bytes : List ℕ) (a b : Moment) (st : Status) → bytes ≡ line → Refuses q text line → b.holds ≡ a.holds → EndsAt a b bytes s.Refused st → Sequel q text a b st
 refuse q text line bytes a b st e r same ends = way.Sequel.refuses r same (subst (λ (x : List ℕ). EndsAt a b x s.Refused st) e ends)
@@ -79,24 +80,40 @@ among_one w n (u ∷ []) ls is e =
     rw (none, same) refl
 among_one w n (u ∷ v ∷ vs) ls is e = absurd (cc)
 
--- FILE is the one file
-pub alone : (words : List (List ℕ)) (q : Request) (n : List ℕ) → Asks words q → inputs q ≡ n ∷ [] → IsAlone q
-alone words q n asks e =
+-- FILE is one of the user's files
+file_among : (words : List (List ℕ)) (q : Request) → Asks words q → is_among q.file q.users ≡ true
+file_among words q asks =
     let own : slice_get (parts_of asks.rest).own 1 ≡ Some q.file = rw asks.own refl in
     let among : is_among q.file (parts_of asks.rest).users ≡ true = ((asks.meets 8).places refl).0 1 q.file own in
-    among_one q.file n q.users q.libs (subst (λ (us : List (List ℕ)). is_among q.file us ≡ true) asks.users among) e
+    subst (λ (us : List (List ℕ)). is_among q.file us ≡ true) asks.users among
+
+-- FILE is the one file
+pub alone : (words : List (List ℕ)) (q : Request) (n : List ℕ) → Asks words q → inputs q ≡ n ∷ [] → IsAlone q
+alone words q n asks e = among_one q.file n q.users q.libs (file_among words q asks) e
+
+users_one : (w n : List ℕ) (us ls : List (List ℕ)) → is_among w us ≡ true → us ++ ls ≡ n ∷ [] → length us ≡ 1
+users_one w n [] ls is e = absurd (cc)
+users_one w n (u ∷ []) ls is e = refl
+users_one w n (u ∷ v ∷ vs) ls is e = absurd (cc)
+
+-- and a user's file
+one_user : (words : List (List ℕ)) (q : Request) → Asks words q → IsAlone q → length q.users ≡ 1
+one_user words q asks is = users_one q.file q.file q.users q.libs (file_among words q asks) is
 
 pub not_alone : (q : Request) (texts : List (List ℕ)) (look : Option Look) → AreHeld look 0 (inputs q) texts → (length texts ≡ 1 → ⊥) → IsAlone q → ⊥
 not_alone q texts look h many is = many (sym (held_long look 0 (inputs q) texts h) ∙ ap length is)
 
 module _ (words : List (List ℕ)) (q : Request) (text : List ℕ) (names : List (List ℕ)) (u : SourceUnit) (a b : Moment) (st : Status) where
+  asked : HasDeclared words a.holds q (text ∷ []) names (u ∷ []) → IsAlone q → (made : List ℕ) (e : Edit) → Changes q text made e → IsAsked words a q made e
+  asked declared is made e c =
+      let one = subst (λ (n : ℕ). AreDeclared n names (u ∷ [])) (one_user words q declared.parsed.read.asks.asks is) declared.declared in
+      record { text = text; names = names; unit = u; declared = declared; alone = is; changes = c; still_declared = still_declared q text names u made e declared.parsed.trees one c }
+
   -- what becomes of a request on the text is what becomes of the call
   pub on_alone : HasDeclared words a.holds q (text ∷ []) names (u ∷ []) → IsAlone q → Sequel q text a b st → Course words a b st
   on_alone declared is (way.Sequel.refuses {line = line} r same ends) = way.Course.refuses (refusal.Refusal.refuses q text names u declared is r) same ends
-  on_alone declared is (way.Sequel.writes {made = made} {e = e} c told ends) =
-      way.Course.writes (record { text = text; names = names; unit = u; declared = declared; alone = is; changes = c }) told ends
-  on_alone declared is (way.Sequel.fails {made = made} {e = e} c told rose ends) =
-      way.Course.fails (record { text = text; names = names; unit = u; declared = declared; alone = is; changes = c }) told rose ends
+  on_alone declared is (way.Sequel.writes {made = made} {e = e} c told ends) = way.Course.writes (asked declared is made e c) told ends
+  on_alone declared is (way.Sequel.fails {made = made} {e = e} c told rose ends) = way.Course.fails (asked declared is made e c) told rose ends
   on_alone declared is (way.Sequel.no_memory e p none) = way.Course.no_memory e p none
 
 pub map_length : {X Y : Type 0} (f : X → Y) (xs : List X) → length (map f xs) ≡ length xs
@@ -257,6 +274,7 @@ module _ (words : List (List ℕ)) (a m b : Moment) (st : Status) (after : IsAft
     declared = subst (λ (look : Option Look). HasDeclared words look q (h.text ∷ []) h.names (h.unit ∷ [])) after.holds h.declared;
     alone = h.alone;
     changes = h.changes;
+    still_declared = h.still_declared;
   }
 
   pub from_before : Course words m b st → Course words a b st

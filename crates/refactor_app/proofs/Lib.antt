@@ -3,6 +3,7 @@ pub mod Asking
 pub mod Changing
 pub mod Courses
 pub mod Deciding
+pub mod Declaring
 pub mod Excluding
 pub mod Faults
 pub mod Judging

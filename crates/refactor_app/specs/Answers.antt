@@ -10,6 +10,7 @@ use Rattle.refactor_app.specs.declared.status.Status.TheVariants as s
 use Rattle.refactor_app.specs.Words.{Request, inputs, IsAlone, out_name}
 use Rattle.report_text.specs.Report.{usage, edit_report, missing, read_fault, write_fault}
 use Rattle.refactor_app.specs.Verdicts.{Changes}
+use Rattle.refactor_app.specs.Declarations.{AreDeclared}
 use Rattle.refactor_app.specs.Refusals.{AsksFew, HasDeclared, Refusal}
 
 -- the change of a file, its only one, that the words ask for
@@ -20,6 +21,8 @@ pub record IsChange (words : List (List ℕ)) (old : Option Look) (q : Request) 
   pub declared : HasDeclared words old q (text ∷ []) names (unit ∷ [])
   pub alone : IsAlone q
   pub changes : Changes q text made edit
+  -- The new file's declarations break no rule either, and the members of its types none.
+  pub still_declared : AreDeclared 1 changes.program.names (changes.program.unit ∷ [])
 
 -- the contents before and after, and what was put before and after
 module _ (words : List (List ℕ)) (old new : Option Look) (before after : Option (List ℕ)) where

@@ -266,7 +266,7 @@ pub fn refactor<F: Files, K: Sink>(
     out: &mut K,
 ) -> Status
     // The new file holds the old bytes under the reported edit, every other name is as before, and the old and the new program
-    // have their trees and types; the new tree is the old one with the one type changed.
+    // have their trees and types, and their declarations break no rule; the new tree is the old one with the one type changed.
     ensures done { result ≡ Status.Done → IsDone (map string_bytes words.now) (F.holds files.old) (F.holds files.new) (K.written out.old) (K.written out.new) }
     // This is the first rule or constraint that stands against the words and the files; nothing is written.
     ensures refused { result ≡ Status.Refused → IsRefused (map string_bytes words.now) (F.holds files.old) (F.holds files.new) (K.written out.old) (K.written out.new) }
