@@ -1,7 +1,6 @@
 -- From what `build` answers to what the judging of a program's declarations does.
-use Rattle.std.proofs.Common.{◌≡◌, ℕ, inl, inr, List, map, take, drop, Result, Ok, Err, refl, sym, ◌∙◌, ap, subst}
+use Rattle.std.proofs.Common.{◌≡◌, ℕ, inl, inr, List, map, take, drop, Result, Ok, Err, sym, ◌∙◌, ap, subst}
 use Rattle.std.proofs.lemmas.List.{take-map, drop-map}
-use Rattle.java_tree.specs.declared.fault.Broken.{Broken}
 use Rattle.java_tree.specs.declared.fault.Fault.{Fault}
 use Rattle.java_tree.specs.declared.fault.Fault.TheVariants as fault
 use Rattle.java_tree.specs.declared.tree.SourceUnit.{SourceUnit}
@@ -13,7 +12,7 @@ use Rattle.rule_order.specs.First.{IsNone}
 use Rattle.decl_table.specs.Program.{Program, IsRefusal, IsProgramWorld}
 use Rattle.decl_table.specs.Judged.{IsProgram, IsBuilding}
 use Rattle.member_table.specs.Table.{MemberBreaches, IsTabling}
-use Rattle.refactor_app.specs.Declarations.{IsOfFiles, AreDeclared, IsBroken}
+use Rattle.refactor_app.specs.Declarations.{IsOfFiles, AreDeclared}
 use Rattle.refactor_app.specs.Judged.{AreJudged}
 
 module _ (users : ℕ) (names new : List (List ℕ)) (units user lib : List SourceUnit) (front : user ≡ take users units) (back : lib ≡ drop users units) where

@@ -1,5 +1,5 @@
 -- The files of a program declare one program, whose declarations break one rule or none.
-use Rattle.std.proofs.Common.{◌≡◌, ℕ, ◌≤◌, ◌⊎◌, inl, inr, List, [], ◌∷◌, take, drop, Option, Some, refl, sym, ◌∙◌, ap, subst, arith}
+use Rattle.std.proofs.Common.{◌≡◌, ℕ, ◌⊎◌, inl, inr, List, [], ◌∷◌, take, drop, Some, refl, sym, ◌∙◌, ap, subst, arith}
 use Rattle.java_tree.specs.Names.{IsTable, with_text}
 use Rattle.java_tree.proofs.Tables.{with_text_table}
 use Rattle.java_tree.specs.Plain.{SourceUnit}
@@ -7,7 +7,7 @@ use Rattle.java_tree.specs.declared.fault.Broken.{Broken}
 use Rattle.java_tree.specs.declared.fault.Family.{Family}
 use Rattle.java_tree.specs.declared.fault.Family.TheVariants as family
 use Rattle.rule_order.specs.declared.Breach.{Breach}
-use Rattle.rule_order.specs.First.{Breaches, IsBefore, IsFirst, IsNone, IsFirstOf}
+use Rattle.rule_order.specs.First.{Breaches, IsBefore, IsNone, IsFirstOf}
 use Rattle.built_in_types.specs.BuiltIns.{texts, with_texts, with_words}
 use Rattle.class_world.specs.declared.world.World.{World}
 use Rattle.decl_table.specs.Program.{Program, IsRefusal, IsProgramWorld}

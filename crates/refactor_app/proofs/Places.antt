@@ -6,7 +6,6 @@ use Rattle.std.specs.declared.string.String.{String}
 use Rattle.std.specs.declared.alloc.Global.{Global}
 use Rattle.std.proofs.lemmas.Bool.{cases_lt}
 use Rattle.std.proofs.lemmas.Option.{slice_get-map}
-use Rattle.edit_writer.specs.declared.places.Place.{Place}
 use Rattle.edit_writer.specs.Places.{place_from, place_at}
 use Rattle.node_places.specs.declared.place.NodePlace.{NodePlace}
 use Rattle.report_text.specs.Report.{refused, refused_at}

@@ -1,7 +1,5 @@
-use Rattle.std.proofs.Common.{◌≡◌, ℕ, List, length, take, refl, sym, ◌∙◌, subst, arith}
-use Rattle.java_tree.specs.Names.{built_in_names}
+use Rattle.std.proofs.Common.{ℕ, List, take, refl, sym, ◌∙◌, subst, arith}
 use Rattle.java_tree.specs.View.{unit_plain}
-use Rattle.source_files.specs.Trees.{AreTrees}
 use Rattle.refactor_app.specs.Asked.{request_of}
 use Rattle.refactor_app.specs.Small.{HasUnit}
 use Rattle.refactor_app.specs.Course as way

@@ -1,4 +1,4 @@
-use Rattle.std.proofs.Common.{◌≡◌, ◌∙◌, ℕ, List, length, take, sym, ap, arith}
+use Rattle.std.proofs.Common.{◌≡◌, ◌∙◌, ℕ, length, take, sym, ap, arith}
 use Rattle.std.proofs.lemmas.List.{length-take}
 use Rattle.java_tree.specs.Names.{built_in_names}
 use Rattle.refactor_app.proofs.Tables.{front_taken, first_more}
