@@ -4,16 +4,15 @@ ghost use Rattle.std.specs.Prelude.{◌≡◌, ◌↔◌, ℕ, List, Some, IfOk,
 ghost use Rattle.std.specs.List.Sorted.{IsStrictlyIncreasing};
 ghost use Rattle.std.specs.HashMap.{get};
 ghost use Rattle.class_world.specs.Sound.{IsSound};
-ghost use Rattle.class_world.specs.Counted.{IsOfClass, IsPreferred};
+ghost use Rattle.class_world.specs.Counted.{IsPreferred};
 ghost use Rattle.counted_methods.specs.Chosen.{AreChosen, AreKeptBy, HaveName, IsBest, IsBetter};
 
 use crate::lists::is_among;
 use crate::signs::signs;
-use crate::superclass::is_class;
 use class_world::World;
 use java_tree::NoMemory;
 use java_tree::tree::Name;
-use seen_methods::method_of;
+use seen_methods::is_of_class;
 use std::alloc::Global;
 use std::collections::HashMap;
 
@@ -92,16 +91,6 @@ fn is_preferred(w: &World, above: &[u32], m: u32, k: u32) -> bool
     let first = is_of_class(w, m);
     let second = is_of_class(w, k);
     if first == second { m < k } else { first }
-}
-
-/// Whether a class declares the method.
-fn is_of_class(w: &World, m: u32) -> bool
-    ensures { IsTrue result ↔ IsOfClass w.now m }
-{
-    match method_of(w, m) {
-        Some(info) => is_class(w, info.owner),
-        None => false,
-    }
 }
 
 /// The methods that are the best of their signs.

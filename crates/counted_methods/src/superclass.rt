@@ -1,11 +1,11 @@
 //! The superclass of a class (JLS 3rd edition, 8.1.4).
 
-ghost use Rattle.std.specs.Prelude.{◌≡◌, ◌↔◌, ℕ, List, IfOk, IfSome, IfNone, IsTrue};
-ghost use Rattle.class_world.specs.Overriding.{IsClass};
+ghost use Rattle.std.specs.Prelude.{◌≡◌, ℕ, List, IfOk, IfSome, IfNone};
 ghost use Rattle.counted_methods.specs.Made.{IsClassType, TellsSuperclass};
 
 use class_world::{JavaType, World};
 use java_tree::NoMemory;
+use seen_methods::is_class;
 
 /// The superclass of a type, if it is a class and has one. `NoMemory` where it has two.
 pub(crate) fn superclass(w: &World, c: u32) -> Result<Option<u32>, NoMemory>
@@ -37,15 +37,5 @@ fn class_of(w: &World, d: &JavaType) -> Option<u32>
     match d {
         JavaType::Class(s, _) => { if is_class(w, *s) { Some(*s) } else { None } }
         _ => None,
-    }
-}
-
-/// Whether the type is a class.
-pub(crate) fn is_class(w: &World, c: u32) -> bool
-    ensures { IsTrue result ↔ IsClass w.now c }
-{
-    match w.types.get(c as usize) {
-        Some(info) => !info.interface,
-        None => false,
     }
 }

@@ -2,7 +2,6 @@ pub mod Overlays
 pub mod Owns
 pub mod Rises
 pub mod Leasts
-pub mod Opens
 pub mod Numbers
 pub mod Shapes
 pub mod Ups

@@ -4,10 +4,10 @@ ghost use Rattle.std.specs.Prelude.{◌↔◌, IsTrue, IfOk};
 ghost use Rattle.signature_numbers.specs.Numbers.{AreApart};
 ghost use Rattle.found_methods.specs.Callees.{AreCallees, IsCallee, IsFixedBy, IsNumbered, KeepsNumbers};
 
-use crate::closed::are_closed;
 use class_world::{MethodInfo, World};
 use java_tree::NoMemory;
 use java_tree::tree::{Mod, Name};
+use seen_methods::are_closed;
 use signature_numbers::SignatureNumbers;
 use std::alloc::Global;
 

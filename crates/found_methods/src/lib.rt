@@ -13,7 +13,6 @@ ghost use Rattle.found_methods.specs.Own.{LowestIs};
 ghost use Rattle.found_methods.specs.Found.{AnswerIs, HaveOverriders, HoldsFound, IsInPlaceOf, OwnAnswerIs, StopsAt};
 
 mod callees;
-mod closed;
 mod firsts;
 mod labels;
 mod own;
@@ -72,7 +71,7 @@ impl FoundMethods {
         })
     }
 
-    /// The method that runs where `method` is called on an object of the class (JLS 15.12.4.4), both by number: a constructor, a static and a private method are themselves; else it is the first that the classes from `class` upwards declare, of those of the method's family that are it, override it, have its parameter types, or override a member of `class` that overrides it. `None` where no class declares one, for an interface and for a number of no method.
+    /// The method that runs where `method` is called on an object of the class (JLS 15.12.4.4), both by number: a constructor, a static and a private method are themselves; else it is the first that the classes from `class` upwards declare, of those of the method's family that are it, override it, have its parameter types, or override a member of `class` that overrides it. `None` where no class declares one, for a number of no method and, but for those that are themselves, for an interface.
     ///
     /// Takes no memory, and mostly two looks at as many nodes as the largest method's number has bits. Where parameter types hold type variables it may have to look again further up, once for each class that declares methods of the family of which none is the answer. For each method of the family that is met and neither is `method` nor overrides it nor has its parameter types, it also looks at each member of `class` with the name and the number of parameters of `method`: at most two looks for each.
     pub fn get(

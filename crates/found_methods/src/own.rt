@@ -4,11 +4,10 @@ ghost use Rattle.std.specs.Prelude.{◌≡◌, ℕ, ◌+◌, ◌<◌, List, leng
 ghost use Rattle.overrides.specs.Families.{AreLabels};
 ghost use Rattle.found_methods.specs.Own.{HoldsOwn};
 
-use crate::supers::is_class;
 use crate::table::Table;
 use class_world::World;
 use java_tree::{Items, NoMemory};
-use seen_methods::method_of;
+use seen_methods::{is_class, method_of};
 use std::alloc::Global;
 
 /// By class and label the lowest method of the label that the class declares; and at its number all of these, ascending. No other number has any.

@@ -1,23 +1,13 @@
 //! The superclasses of classes (JLS 3rd edition, 8.1.4).
 
-ghost use Rattle.std.specs.Prelude.{◌↔◌, ℕ, IfOk, IfSome, IfNone, IsTrue};
+ghost use Rattle.std.specs.Prelude.{◌↔◌, ℕ, IfOk, IfSome, IfNone};
 ghost use Rattle.std.specs.List.{Contains};
-ghost use Rattle.class_world.specs.Overriding.{IsClass};
 ghost use Rattle.found_methods.specs.Supers.{AreSuperclasses, IsClassIn, IsDeclaredSuperclass};
 
 use class_world::{JavaType, TypeInfo, World};
 use java_tree::{Items, NoMemory};
+use seen_methods::is_class;
 use std::alloc::Global;
-
-/// Whether the number is that of a class and no interface.
-pub(crate) fn is_class(w: &World, c: u32) -> bool
-    ensures { IsTrue result ↔ IsClass w.now c }
-{
-    match w.types.get(c as usize) {
-        Some(info) => !info.interface,
-        None => false,
-    }
-}
 
 /// The superclasses of each type, by number: at most one in the world of a program, none of an interface.
 pub(crate) fn superclasses(alloc: Global, w: &World) -> Result<Vec<Items<u32>>, NoMemory>

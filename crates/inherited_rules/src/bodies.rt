@@ -12,13 +12,14 @@ ghost use Rattle.overrides.specs.Overrides.{HoldsOverrides};
 ghost use Rattle.inherited_rules.specs.Rules.{IsAbstractMethod, IsConcrete, LacksBody};
 ghost use Rattle.inherited_rules.specs.Parts.{HasBodies, IsBodyOf, IsUnmet};
 
-use crate::methods::{ascending, is_abstract, method_of};
+use crate::methods::{ascending, is_abstract};
 use class_world::World;
 use java_tree::NoMemory;
 use java_tree::tree::Mod;
 use member_methods::MethodLists;
 use numbered_methods::NumberedMethods;
 use overrides::Overrides;
+use seen_methods::method_of;
 use std::alloc::Global;
 
 /// So many methods of one name and number of parameters are asked one by one.

@@ -1,13 +1,13 @@
 //! Whether one result fits another. A result is a type, or `None` for void.
 
 ghost use Rattle.std.specs.Prelude.{◌≡◌, ◌↔◌, IsTrue};
-ghost use Rattle.class_world.specs.Types.{IsReference};
 ghost use Rattle.class_world.specs.Sound.{IsSound};
 ghost use Rattle.inherited_rules.specs.Rules.{FitsResult};
 ghost use Rattle.inherited_rules.specs.Parts.{IsResult, IsUnlike};
 ghost use Rattle.inherited_rules.specs.Chains.{IsBelow};
 
 use class_world::{JavaType, World, fits, is_same, is_sub};
+use seen_methods::is_reference;
 
 /// Whether one result may stand where the other is wanted.
 pub(crate) fn fits_result(w: &World, r: &Option<JavaType>, q: &Option<JavaType>) -> bool
@@ -57,17 +57,5 @@ pub(crate) fn is_same_result(r: &Option<JavaType>, q: &Option<JavaType>) -> bool
             None => false,
             Some(t) => is_same(s, t),
         },
-    }
-}
-
-fn is_reference(t: &JavaType) -> bool
-    ensures { IsTrue result ↔ IsReference t.now }
-{
-    match t {
-        JavaType::Prim(_) => false,
-        JavaType::Null => false,
-        JavaType::Class(_, _) => true,
-        JavaType::Var(_) => true,
-        JavaType::Array(_) => true,
     }
 }

@@ -1,29 +1,14 @@
 //! Methods by number.
 
-ghost use Rattle.std.specs.Prelude.{ℕ, ◌↔◌, IsTrue, IfSome, IfNone};
+ghost use Rattle.std.specs.Prelude.{ℕ, ◌↔◌, IsTrue};
 ghost use Rattle.std.specs.List.{Contains};
 ghost use Rattle.std.specs.List.Sorted.{IsStrictlyIncreasing};
-ghost use Rattle.class_world.specs.declared.world.MethodInfo as infos;
-ghost use Rattle.class_world.specs.Access.{IsInterface};
-ghost use Rattle.class_world.specs.Signatures.{IsMethod};
 ghost use Rattle.class_world.specs.Inheritance.{DeclaresMethod};
-ghost use Rattle.class_world.specs.Overriding.{IsClass};
-ghost use Rattle.class_world.specs.Counted.{IsOfClass};
 ghost use Rattle.inherited_rules.specs.Rules.{IsAbstractMethod};
 
-use class_world::{MethodInfo, World};
+use class_world::World;
 use java_tree::tree::Mod;
-
-/// The method with a number; `None` for a constructor.
-pub(crate) fn method_of(w: &World, m: u32) -> Option<&MethodInfo>
-    ensures some { IfSome result (λ i. IsMethod w.now m i.now) }
-    ensures none { IfNone result ((i : infos.MethodInfo) → IsMethod w.now m i → ⊥) }
-{
-    match w.methods.get(m as usize) {
-        Some(info) if !info.constructor => Some(info),
-        _ => None,
-    }
-}
+use seen_methods::{is_interface, method_of};
 
 /// Whether the type itself declares the method.
 pub(crate) fn declares(w: &World, c: u32, m: u32) -> bool
@@ -43,34 +28,6 @@ pub(crate) fn is_abstract(w: &World, m: u32) -> bool
         Some(info) => {
             info.mods.as_slice().contains(&Mod::Abstract) || is_interface(w, info.owner)
         }
-        None => false,
-    }
-}
-
-fn is_interface(w: &World, c: u32) -> bool
-    ensures { IsTrue result ↔ IsInterface w.now c }
-{
-    match w.types.get(c as usize) {
-        Some(info) => info.interface,
-        None => false,
-    }
-}
-
-/// Whether a class declares the method.
-pub(crate) fn is_of_class(w: &World, m: u32) -> bool
-    ensures { IsTrue result ↔ IsOfClass w.now m }
-{
-    match method_of(w, m) {
-        Some(info) => is_class(w, info.owner),
-        None => false,
-    }
-}
-
-fn is_class(w: &World, c: u32) -> bool
-    ensures { IsTrue result ↔ IsClass w.now c }
-{
-    match w.types.get(c as usize) {
-        Some(info) => !info.interface,
         None => false,
     }
 }

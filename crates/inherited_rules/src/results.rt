@@ -14,14 +14,14 @@ ghost use Rattle.inherited_rules.specs.Rules.{HasUnlikeResults, IsInherited};
 ghost use Rattle.inherited_rules.specs.Numbers.{AreErased, IsClosedOrAlone};
 ghost use Rattle.inherited_rules.specs.Parts.{AreJudged, HasMembers, HasUnresolvedPair, IsJudged};
 
-use crate::methods::{ascending, declares, method_of};
+use crate::methods::{ascending, declares};
 use crate::unresolved::has_unresolved;
 use class_world::World;
 use java_tree::NoMemory;
 use member_methods::MethodLists;
 use numbered_methods::NumberedMethods;
 use overrides::Overrides;
-use seen_methods::has_closed_params;
+use seen_methods::{has_closed_params, method_of};
 use std::alloc::Global;
 use std::collections::HashSet;
 

@@ -14,11 +14,10 @@ ghost use Rattle.inherited_rules.specs.Chains.{AreKept, IsAmong};
 
 use crate::chain::Results;
 use crate::fit::is_unlike;
-use crate::methods::is_of_class;
 use class_world::{JavaType, World};
 use java_tree::NoMemory;
 use overrides::Overrides;
-use seen_methods::seen_result;
+use seen_methods::{is_of_class, seen_result};
 use std::alloc::Global;
 
 /// Whether two of the methods have unlike results, as the type sees them, and none of the methods that a class declares overrides both. Where two are unlike and a class declares some, it takes time for all pairs with those that the first of these does not override.

@@ -3,8 +3,6 @@
 ghost use Rattle.std.specs.Prelude.{◌↔◌, IsTrue, IfSome, IfOk};
 ghost use Rattle.std.specs.List.Sorted.{IsStrictlyIncreasing};
 ghost use Rattle.class_world.specs.Sound.{IsKnown, IsSound};
-ghost use Rattle.class_world.specs.Overriding.{IsClass};
-ghost use Rattle.class_world.specs.Counted.{IsOfClass};
 ghost use Rattle.iterables.specs.Walks.{IsCounted, ThrowsNothing};
 ghost use Rattle.iterables.specs.Told.{DeclaresNamed, FindsOne, IsFirstDeclared, IsPlain, TellsFirst};
 
@@ -13,7 +11,7 @@ use class_world::World;
 use java_tree::tree::Name;
 use java_tree::{Names, NoMemory};
 use member_methods::MethodLists;
-use seen_methods::method_of;
+use seen_methods::{is_of_class, method_of};
 use std::alloc::Global;
 
 fn declares(w: &World, c: u32, name: Name, m: u32) -> bool
@@ -39,25 +37,6 @@ fn first_declared(w: &World, c: u32, name: Name) -> Option<u32>
         }
     }
     None
-}
-
-fn is_class(w: &World, c: u32) -> bool
-    ensures { IsTrue result ↔ IsClass w.now c }
-{
-    match w.types.get(c as usize) {
-        Some(info) => !info.interface,
-        None => false,
-    }
-}
-
-/// Whether a class declares the method.
-fn is_of_class(w: &World, m: u32) -> bool
-    ensures { IsTrue result ↔ IsOfClass w.now m }
-{
-    match method_of(w, m) {
-        Some(info) => is_class(w, info.owner),
-        None => false,
-    }
 }
 
 /// The first of the methods, which are ascending, that a class declares, or else the first of all.

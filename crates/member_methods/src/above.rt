@@ -1,14 +1,14 @@
 //! The types directly above a type (JLS 3rd edition, 8.1.4, 8.1.5 and 9.2).
 
-ghost use Rattle.std.specs.Prelude.{ℕ, IfOk, IsTrue, ◌↔◌};
+ghost use Rattle.std.specs.Prelude.{ℕ, IfOk, ◌↔◌};
 ghost use Rattle.std.specs.List.{Contains};
-ghost use Rattle.class_world.specs.Access.{IsInterface};
 ghost use Rattle.class_world.specs.Inheritance.{IsDirectlyAbove};
 ghost use Rattle.class_world.specs.Overriding.{IsSuperinterface};
 ghost use Rattle.member_methods.specs.TypesAbove.{all_above};
 
 use class_world::{JavaType, World};
 use java_tree::NoMemory;
+use seen_methods::is_interface;
 use std::alloc::Global;
 
 /// The types directly above a type: its direct superinterfaces, and the others.
@@ -41,13 +41,4 @@ pub(crate) fn directly_above(alloc: Global, w: &World, c: u32) -> Result<TypesAb
         others.push(0)?;
     }
     Ok(TypesAbove { interfaces, others })
-}
-
-fn is_interface(w: &World, c: u32) -> bool
-    ensures { IsTrue result ↔ IsInterface w.now c }
-{
-    match w.types.get(c as usize) {
-        Some(info) => info.interface,
-        None => false,
-    }
 }

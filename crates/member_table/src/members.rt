@@ -66,7 +66,7 @@ impl Members {
         self.groups.get(m)
     }
 
-    /// The method that runs where `method` is called on an object of the class `class` (JLS 15.12.4.4), all by number. `None` where no class declares one, and for an interface. Takes no memory.
+    /// The method that runs where `method` is called on an object of the class `class` (JLS 15.12.4.4), all by number. `None` where no class declares one, and for an interface, but for a constructor, a static and a private method, which are themselves. Takes no memory.
     pub fn lookup(&self, class: u32, method: u32) -> Option<u32>
         ensures { (w : worlds.World) → HoldsMembers w self.now → FoundIs w method class result }
     {

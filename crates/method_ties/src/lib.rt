@@ -20,7 +20,7 @@ use member_methods::MethodLists;
 use replace::all_replaced;
 use std::alloc::Global;
 
-/// Two methods that a class has with one signature: from its superclass, and from an interface. Numbers of methods.
+/// Two different methods that a class has with one signature: one from its superclass, which a class declares, and one from an interface. Numbers of methods.
 #[derive(Clone, Copy, Debug, PartialEq, Eq)]
 pub struct Meeting {
     pub lower: u32,
@@ -59,7 +59,7 @@ impl MethodTies {
         }
     }
 
-    /// The pairs that the type `c` has from both sides with one signature, each once. Takes no memory.
+    /// The pairs that the class `c` has from both sides with one signature, each once; an interface has none. Takes no memory.
     pub fn meetings(&self, c: u32) -> &[Meeting]
         ensures { (w : worlds.World) → HoldsTies w self.now → AreMeetings w c result.now }
     {

@@ -4,8 +4,7 @@ ghost use Rattle.std.specs.Prelude.{◌≡◌, ◌↔◌, ◌⊎◌, ℕ, IfOk, 
 ghost use Rattle.std.specs.List.{Contains};
 ghost use Rattle.std.specs.List.Sorted.{IsStrictlyIncreasing};
 ghost use Rattle.class_world.specs.Sound.{IsSound};
-ghost use Rattle.class_world.specs.Inheritance.{DeclaresMethod, IsMemberMethod};
-ghost use Rattle.class_world.specs.Overriding.{IsClass};
+ghost use Rattle.class_world.specs.Inheritance.{IsMemberMethod};
 ghost use Rattle.member_methods.specs.Methods.{AreNamed, HoldsMethods};
 ghost use Rattle.method_ties.specs.declared.Meeting as pairs;
 ghost use Rattle.method_ties.specs.Ties.{AreMeetings};
@@ -14,12 +13,12 @@ ghost use Rattle.method_ties.specs.Tables.{HoldTables, IsKeyed, IsKeyedLower, na
 
 use crate::Meeting;
 use crate::lists::{ascending, is_among};
-use crate::supers::{classes, is_class, supertypes};
+use crate::supers::{classes, supertypes};
 use crate::tables::{FEW, Key, Tables};
 use class_world::World;
 use java_tree::{Items, NoMemory};
 use member_methods::MethodLists;
-use seen_methods::{have_one_signature, method_of};
+use seen_methods::{have_one_signature, is_class, is_of_class, method_of};
 use std::alloc::Global;
 
 /// Whether the method is a member of one of the types.
@@ -36,16 +35,6 @@ fn is_of_one(w: &World, lists: &MethodLists, types: &[u32], m: u32) -> bool
         }
     }
     false
-}
-
-/// Whether a class declares the method.
-fn is_declared_in_class(w: &World, m: u32) -> bool
-    ensures { IsTrue result ↔ ((o : ℕ) × DeclaresMethod w.now o m × IsClass w.now o) }
-{
-    match method_of(w, m) {
-        Some(info) => is_class(w, info.owner),
-        None => false,
-    }
 }
 
 /// Whether the method is a member of the type `c`, which does not declare it.
@@ -67,7 +56,7 @@ fn is_lower(w: &World, lists: &MethodLists, c: u32, supers: &[u32], m: u32) -> b
     requires supers { AreSuperclasses w.now c supers.now }
     ensures { IsTrue result ↔ IsLower w.now c m }
 {
-    is_inherited(w, lists, c, m) && is_declared_in_class(w, m) && is_of_one(w, lists, supers, m)
+    is_inherited(w, lists, c, m) && is_of_class(w, m) && is_of_one(w, lists, supers, m)
 }
 
 /// Whether the method `m` meets `k`, which the class has from an interface.

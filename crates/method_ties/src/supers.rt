@@ -1,12 +1,13 @@
 //! The supertypes that a type declares (JLS 3rd edition, 8.1.4 and 8.1.5).
 
-ghost use Rattle.std.specs.Prelude.{ℕ, IfOk, IsTrue, ◌↔◌};
+ghost use Rattle.std.specs.Prelude.{ℕ, IfOk, ◌↔◌};
 ghost use Rattle.std.specs.List.{Contains};
 ghost use Rattle.class_world.specs.Overriding.{IsClass};
 ghost use Rattle.method_ties.specs.Sides.{IsSupertype};
 
 use class_world::{JavaType, World};
 use java_tree::NoMemory;
+use seen_methods::is_class;
 use std::alloc::Global;
 
 /// The classes of a type's declared supertypes, in order.
@@ -36,13 +37,4 @@ pub(crate) fn classes(alloc: Global, w: &World, types: &[u32]) -> Result<Vec<u32
         }
     }
     Ok(classes)
-}
-
-pub(crate) fn is_class(w: &World, c: u32) -> bool
-    ensures { IsTrue result ↔ IsClass w.now c }
-{
-    match w.types.get(c as usize) {
-        Some(info) => !info.interface,
-        None => false,
-    }
 }

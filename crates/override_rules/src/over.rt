@@ -1,56 +1,31 @@
 //! One method over another, as a type sees both (JLS 3rd edition, 8.4.3.3, 8.4.5 and 8.4.8.1 to 8.4.8.3).
 
 ghost use Rattle.std.specs.Prelude.{◌≡◌, ℕ, ◌↔◌, ◌⊎◌, IsTrue, IfOk, IfSome, IfNone};
-ghost use Rattle.class_world.specs.declared.world.MethodInfo as methods;
 ghost use Rattle.class_world.specs.Types.{IsReference};
 ghost use Rattle.class_world.specs.Subtypes.{Subtype};
 ghost use Rattle.class_world.specs.Sound.{IsOfWorld, IsSound};
-ghost use Rattle.class_world.specs.Signatures.{IsMethod};
 ghost use Rattle.override_rules.specs.Judged.{HasAccess, HasKnownOwner, IsLowest, ResultIsOfWorld};
 ghost use Rattle.override_rules.specs.Rules.{Breaks, BreaksResult, HasMod, IsWeaker, Suits};
 ghost use Rattle.override_rules.specs.Rules as spec;
 ghost use Rattle.class_world.specs.Typed.{HaveTypes};
 
 use crate::throwing::throws_more;
-use class_world::{JavaType, MethodInfo, World, is_same, is_sub};
+use class_world::{JavaType, World, is_same, is_sub};
 use java_tree::NoMemory;
 use java_tree::tree::Mod;
-use seen_methods::seen_result;
+use seen_methods::{is_reference, method_of, seen_result};
 use std::alloc::Global;
-
-/// What is known of a method; `None` for a constructor and for a number that is no method's.
-pub(crate) fn method(w: &World, m: u32) -> Option<&MethodInfo>
-    ensures some { IfSome result (λ info. IsMethod w.now m info.now) }
-    ensures none { IfNone result ((info : methods.MethodInfo) → IsMethod w.now m info → ⊥) }
-{
-    match w.methods.get(m as usize) {
-        Some(info) => { if info.constructor { None } else { Some(info) } }
-        None => None,
-    }
-}
 
 pub(crate) fn has_mod(w: &World, m: u32, modifier: Mod) -> bool
     ensures { IsTrue result ↔ HasMod w.now m modifier }
 {
-    match method(w, m) {
+    match method_of(w, m) {
         Some(info) => info.mods.as_slice().contains(&modifier),
         None => false,
     }
 }
 
 // ---- results
-
-fn is_reference(t: &JavaType) -> bool
-    ensures { IsTrue result ↔ IsReference t.now }
-{
-    match t {
-        JavaType::Prim(_) => false,
-        JavaType::Null => false,
-        JavaType::Class(_, _) => true,
-        JavaType::Var(_) => true,
-        JavaType::Array(_) => true,
-    }
-}
 
 /// Whether the types are the same, or the first is a reference type below the other.
 fn is_type_or_below(w: &World, s: &JavaType, t: &JavaType) -> bool
@@ -112,7 +87,7 @@ fn access_of(w: &World, m: u32) -> Option<u8>
     ensures some { IfSome result (λ level. HasAccess w.now m level) }
     ensures none { IfNone result ((level : ℕ) → HasAccess w.now m level → ⊥) }
 {
-    match method(w, m) {
+    match method_of(w, m) {
         Some(info) => match w.types.get(info.owner as usize) {
             Some(owner) => Some(access(owner.interface, info.mods.as_slice())),
             None => None,

@@ -9,9 +9,9 @@ ghost use Rattle.override_rules.specs.Rules.{IsUncheckedException, ThrowsMore};
 ghost use Rattle.class_world.specs.Typed.{HaveTypes};
 
 use crate::bits::{bits_above, class_bits, have_common_bit};
-use crate::over::method;
 use class_world::{JavaType, World, is_sub, super_as};
 use java_tree::{Items, NoMemory};
+use seen_methods::method_of;
 use std::alloc::Global;
 
 /// The numbers of two built-in types.
@@ -143,10 +143,10 @@ pub(crate) fn throws_more(alloc: Global, w: &World, m: u32, k: u32) -> Result<bo
     requires owners { HasKnownOwner w.now m × HasKnownOwner w.now k }
     ensures { IfOk result (λ r. IsTrue r ↔ ThrowsMore w.now m k) }
 {
-    let Some(low) = method(w, m) else {
+    let Some(low) = method_of(w, m) else {
         return Ok(false);
     };
-    let Some(high) = method(w, k) else {
+    let Some(high) = method_of(w, k) else {
         return Ok(false);
     };
     names_more(alloc, w, low.throws.as_slice(), high.throws.as_slice())

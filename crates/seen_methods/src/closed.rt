@@ -21,7 +21,7 @@ pub(crate) fn are_same(xs: &[JavaType], ys: &[JavaType]) -> bool
 /// Whether the type holds no type variable.
 #[cycle(closed)]
 fn is_closed(t: &JavaType) -> bool
-    ensures { IsTrue result → IsClosed t.now }
+    ensures { IsTrue result ↔ IsClosed t.now }
 {
     match t {
         JavaType::Prim(_) => true,
@@ -32,9 +32,10 @@ fn is_closed(t: &JavaType) -> bool
     }
 }
 
+/// Whether none of the types holds a type variable. Takes time for the types.
 #[cycle(closed)]
-pub(crate) fn are_closed(xs: &[JavaType]) -> bool
-    ensures { IsTrue result → AreClosed xs.now }
+pub fn are_closed(xs: &[JavaType]) -> bool
+    ensures { IsTrue result ↔ AreClosed xs.now }
 {
     match xs.split_first() {
         None => true,

@@ -1,6 +1,6 @@
 //! Which type variables the parameter types of methods have.
 
-ghost use Rattle.std.specs.Prelude.{IsTrue};
+ghost use Rattle.std.specs.Prelude.{◌↔◌, IsTrue};
 ghost use Rattle.seen_methods.specs.Closed.{HasClosedParams};
 ghost use Rattle.seen_methods.specs.Scopes.{AreOver, IsOver, IsScoped};
 
@@ -47,7 +47,7 @@ pub fn is_scoped(w: &World, m: u32) -> bool
 
 /// Whether the parameter types of a method hold no type variable. Takes time for the types.
 pub fn has_closed_params(w: &World, m: u32) -> bool
-    ensures { IsTrue result → HasClosedParams w.now m }
+    ensures { IsTrue result ↔ HasClosedParams w.now m }
 {
     match method_of(w, m) {
         Some(info) => are_closed(info.params.as_slice()),

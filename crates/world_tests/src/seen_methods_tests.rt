@@ -6,11 +6,14 @@ use crate::worlds::Form::{Constructor, Open};
 use crate::worlds::Type::{ArrayOf, Class, Int, Of, OfOf, OfSome, OfTwo, OfVar, OfVars, Var, Vars};
 use crate::worlds::{Head, Method, OBJECT, STRING, Type, read, read_all, sound};
 use class_world::{JavaType, World, is_same};
-use seen_methods::{agree_below, have_one_signature, seen_params, seen_result};
+use seen_methods::{
+    agree_below, has_closed_params, have_one_signature, is_class, is_interface, is_of_class,
+    seen_params, seen_result,
+};
 use std::alloc::Global;
 use std::test::Fail;
 
-/// A question and its answer: the parameter types of a method in a type; its result there, none for void; whether two methods have one signature in a type; whether they agree in all types below both.
+/// A question and its answer: the parameter types of a method in a type; its result there, none for void; whether two methods have one signature in a type; whether they agree in all types below both; whether a type is a class, and whether an interface; whether a class declares a method; whether its parameter types hold no type variable.
 #[derive(Clone, Copy)]
 enum Ask<'a> {
     Params(u32, u32, &'a [Type]),
@@ -20,9 +23,12 @@ enum Ask<'a> {
     NoResult(u32, u32),
     One(u32, u32, u32, bool),
     Agree(u32, u32, bool),
+    Kind(u32, bool, bool),
+    OfClass(u32, bool),
+    Closed(u32, bool),
 }
 
-use Ask::{Agree, NoParams, NoResult, One, Params, Returns, ReturnsVoid};
+use Ask::{Agree, Closed, Kind, NoParams, NoResult, OfClass, One, Params, Returns, ReturnsVoid};
 
 struct Sample<'a> {
     types: &'a [Head<'a>],
@@ -105,6 +111,14 @@ const SAMPLES: [Sample<'static>; 10] = [
             One(4, 1, 0, true),
             One(5, 1, 0, false),
             Agree(1, 0, false),
+            Kind(2, false, true),
+            Kind(5, true, false),
+            Kind(6, false, false),
+            OfClass(0, false),
+            OfClass(1, true),
+            OfClass(2, false),
+            Closed(0, false),
+            Closed(1, true),
         ],
     },
     // the same without D
@@ -137,6 +151,8 @@ const SAMPLES: [Sample<'static>; 10] = [
             ReturnsVoid(3, 0),
             Returns(3, 1, Of(2, STRING)),
             Returns(4, 1, OfOf(2, 2, 0)),
+            Closed(0, false),
+            Closed(1, true),
         ],
     },
     // class A { A(int x) {}  void A(int x) {} }
@@ -154,6 +170,8 @@ const SAMPLES: [Sample<'static>; 10] = [
             One(2, 0, 1, false),
             One(2, 1, 1, true),
             Agree(0, 1, true),
+            OfClass(0, false),
+            OfClass(1, true),
         ],
     },
     // class A { void f(int x) {}  void g(int x) {} }  class B { void f(String x) {} }
@@ -267,6 +285,11 @@ fn is_so(alloc: Global, w: &World, ask: &Ask<'_>) -> Result<bool, Fail>
         NoResult(c, m) => Ok(seen_result(alloc, w, *c, *m)?.is_none()),
         One(c, m, k, so) => Ok(have_one_signature(alloc, w, *c, *m, *k)? == *so),
         Agree(m, k, so) => Ok(agree_below(alloc, w, *m, *k)? == *so),
+        Kind(c, class, interface) => {
+            Ok(is_class(w, *c) == *class && is_interface(w, *c) == *interface)
+        }
+        OfClass(m, so) => Ok(is_of_class(w, *m) == *so),
+        Closed(m, so) => Ok(has_closed_params(w, *m) == *so),
     }
 }
 

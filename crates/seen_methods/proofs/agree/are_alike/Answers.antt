@@ -15,6 +15,6 @@ returns-then-are_same c h =
           let name : i.name ≡ j.name = ap (λ n. record { 0 = n }) number in
           let same = w.are_same.ensures.0 (sym w.value-is ∙ c.if-are_same.true) in
           alike_agree c.args.w.now c.args.m c.args.k i j c.in-Some.ensures.some c.in-Some-method_of.ensures.some name (sym w.as_slice.ensures ∙ same ∙ w.as_slice-then-eq.ensures)
-          (subst AreClosed c.as_slice-then-are_same.ensures (c.are_closed.ensures h))
+          (subst AreClosed c.as_slice-then-are_same.ensures (c.are_closed.ensures.0 h))
       | else-eq w ↦ absurd (cc (w.value-is, c.if-are_same.true))
     ]

@@ -1,6 +1,6 @@
 use Rattle.std.proofs.Common.{refl, sym, subst}
 use Rattle.class_world.specs.Types.{IsReference, of_class, of_variable, of_array}
-use Rattle.override_rules.proofs.over.is_reference.Goals as goal
+use Rattle.seen_methods.proofs.kinds.is_reference.Goals as goal
 
 pub returns-in-Class : goal.returns-in-Class
 returns-in-Class c = (λ h. subst IsReference (sym c.in-Class.is) (of_class _ _), λ h. refl)
