@@ -91,7 +91,7 @@ rows =
     ∷ method 1 Substring (Some Int) (Some Int) (Some Text) ∷ method 1 CompareTo (Some Text) None (Some Int) ∷ method 1 Equals (Some Object) None (Some Boolean)
     ∷ method 1 HashCode None None (Some Int) ∷ method 1 ToString None None (Some Text)
     ∷ (prints Print ++ prints Println ++ method 3 Println None None None ∷ throwables (4 ∷ []) ++ method 4 GetMessage None None (Some Text)
-    ∷ method 4 ToString None None (Some Text) ∷ throwables (5 ∷ 6 ∷ 7 ∷ 8 ∷ 9 ∷ 10 ∷ 11 ∷ 12 ∷ 13 ∷ 14 ∷ 15 ∷ []))
+    ∷ method 4 ToString None None (Some Text) ∷ throwables (5 ∷ 6 ∷ 7 ∷ 8 ∷ 9 ∷ 10 ∷ 11 ∷ 12 ∷ 13 ∷ 14 ∷ 15 ∷ 16 ∷ 17 ∷ 18 ∷ []))
 
 -- String is number 1, and Object number 0
 abbrev pub shape_type : Shape → JavaType
@@ -164,11 +164,12 @@ abbrev pub types_from : Words → ℕ → List (Option ℕ) → List TypeInfo
 types_from w k [] = []
 types_from w k (above ∷ rest) = type_info w k above ∷ types_from w (k + 1) rest
 
--- The superclasses: of Object none, of Exception (5) and Error (6) Throwable (4), of RuntimeException (7) Exception, of those below it RuntimeException, and of
--- the two index exceptions of arrays and strings (14, 15) IndexOutOfBoundsException (13).
+-- The superclasses: of Object none, of Exception (5) and Error (6) Throwable (4), of RuntimeException (7) Exception, of those below it RuntimeException, of
+-- the two index exceptions of arrays and strings (14, 15) IndexOutOfBoundsException (13), of LinkageError (16) Error, and of the two errors of initialisation
+-- (17, 18) LinkageError.
 abbrev pub superclasses : List (Option ℕ)
 superclasses =
-    None ∷ Some 0 ∷ Some 0 ∷ Some 0 ∷ Some 0 ∷ Some 4 ∷ Some 4 ∷ Some 5 ∷ Some 7 ∷ Some 7 ∷ Some 7 ∷ Some 7 ∷ Some 7 ∷ Some 7 ∷ Some 13 ∷ Some 13 ∷ []
+    None ∷ Some 0 ∷ Some 0 ∷ Some 0 ∷ Some 0 ∷ Some 4 ∷ Some 4 ∷ Some 5 ∷ Some 7 ∷ Some 7 ∷ Some 7 ∷ Some 7 ∷ Some 7 ∷ Some 7 ∷ Some 13 ∷ Some 13 ∷ Some 6 ∷ Some 16 ∷ Some 16 ∷ []
 
 abbrev pub built_in_types : Words → List TypeInfo
 built_in_types w = types_from w 0 superclasses

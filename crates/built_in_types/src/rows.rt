@@ -58,7 +58,7 @@ macro_rules! row {
 }
 
 /// The methods and constructors, by number.
-pub(crate) const METHODS: [Row; 53] = [
+pub(crate) const METHODS: [Row; 59] = [
     row!(0, new()),
     row!(0, ToString() -> Text),
     row!(0, Equals(Object) -> Boolean),
@@ -112,4 +112,10 @@ pub(crate) const METHODS: [Row; 53] = [
     row!(14, new(Text)),
     row!(15, new()),
     row!(15, new(Text)),
+    row!(16, new()),
+    row!(16, new(Text)),
+    row!(17, new()),
+    row!(17, new(Text)),
+    row!(18, new()),
+    row!(18, new(Text)),
 ];

@@ -38,6 +38,9 @@ const SUPERCLASSES: [Option<u32>; BUILT_IN_TYPES as usize] = [
     Some(7),
     Some(13),
     Some(13),
+    Some(6),
+    Some(16),
+    Some(16),
 ];
 
 fn class(alloc: Global, number: u32) -> JavaType

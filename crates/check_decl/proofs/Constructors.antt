@@ -65,17 +65,17 @@ fewer (d ∷ e ∷ ds) =
     let h = fewer (e ∷ ds) in
     omega arith
 
-class_constructor : (u : SourceUnit) (n c : ℕ) → place_of n (before_last u.types) 16 ≡ Some c → (k : ℕ) × IsConstructor (world_of u) c k
+class_constructor : (u : SourceUnit) (n c : ℕ) → place_of n (before_last u.types) 19 ≡ Some c → (k : ℕ) × IsConstructor (world_of u) c k
 class_constructor u n c e =
-    let at = placed n (before_last u.types) 16 c e in
+    let at = placed n (before_last u.types) 19 c e in
     let few = fewer u.types in
-    let found : (k : ℕ) × Stands (methods_of u 16 u.types) (16 + at.0) k = has_default u u.types 16 at.0 (omega (arith, at.2)) in
+    let found : (k : ℕ) × Stands (methods_of u 19 u.types) (19 + at.0) k = has_default u u.types 19 at.0 (omega (arith, at.2)) in
     let s = found.1 in
     (suc found.0, (s.info, s.is_there, s.owner ∙ sym at.1, s.constructor, s.params))
 
 by_name : (u : SourceUnit) (x : TypeExpr) (c : ℕ) (b : Bool) → (if b then Some 0 else class_named u x) ≡ Some c → (k : ℕ) × IsConstructor (world_of u) c k
 by_name u x c true e = (0, (object_constructor, refl, same_Some 0 c e, refl, refl))
-by_name u x c false e = option_and_then_some (λ n. place_of n.0 (before_last u.types) 16) (simple_name x) c e (λ n is h. class_constructor u n.0 c h)
+by_name u x c false e = option_and_then_some (λ n. place_of n.0 (before_last u.types) 19) (simple_name x) c e (λ n is h. class_constructor u n.0 c h)
 
 -- a class that a step names has a constructor
 pub constructor_of : (u : SourceUnit) (x : TypeExpr) (c : ℕ) → step_type u x ≡ Some c → (k : ℕ) × IsConstructor (world_of u) c k
@@ -160,17 +160,17 @@ one_each u (d ∷ ds) c none k l i j e f is_i is_j same =
     let h : at.0 ≡ bt.0 = one_more u d ds c none.1 (one_each u ds (c + 1) none.1) at.0 bt.0 i j at.2 bt.2 is_i is_j same in
     omega (arith, h, at.1, bt.1)
 
-one_in_world : (u : SourceUnit) → NoConstructors u.types → OneEach (object_constructor ∷ methods_of u 16 u.types)
+one_in_world : (u : SourceUnit) → NoConstructors u.types → OneEach (object_constructor ∷ methods_of u 19 u.types)
 one_in_world u none zero zero i j e f is_i is_j same = refl
 one_in_world u none zero (suc l) i j e f is_i is_j same =
     let h : 0 ≡ i.owner = ap (λ (i : MethodInfo). i.owner) (same_Some object_constructor i e) in
-    let low = owner_low u u.types 16 none l j f is_j in
+    let low = owner_low u u.types 19 none l j f is_j in
     absurd (omega (arith, h, low, same))
 one_in_world u none (suc k) zero i j e f is_i is_j same =
     let h : 0 ≡ j.owner = ap (λ (i : MethodInfo). i.owner) (same_Some object_constructor j f) in
-    let low = owner_low u u.types 16 none k i e is_i in
+    let low = owner_low u u.types 19 none k i e is_i in
     absurd (omega (arith, h, low, same))
-one_in_world u none (suc k) (suc l) i j e f is_i is_j same = ap suc (one_each u u.types 16 none k l i j e f is_i is_j same)
+one_in_world u none (suc k) (suc l) i j e f is_i is_j same = ap suc (one_each u u.types 19 none k l i j e f is_i is_j same)
 
 -- a class has one constructor without parameters
 pub one_constructor : (u : SourceUnit) → NoConstructors u.types → (c k l : ℕ) → IsConstructor (world_of u) c k → IsConstructor (world_of u) c l → k ≡ l

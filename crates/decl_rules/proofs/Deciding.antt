@@ -75,15 +75,6 @@ pub nested_decides : (generic : Name → Bool) (vars : List Name) (x : t.TypeExp
 nested_decides generic vars x =
     Decides-or (nat_lt 0 (dims_of x)) (names_generic generic vars (head_of x)) (Decides-ltb 0 (dims_of x)) (generic_decides generic vars (head_of x))
 
--- ---- S16
-
-pub set_decides : (S : Type 0) → S → (i : Option t.Expr) → Decides (spec.is_set i) (S × ((x : t.Expr) × (i ≡ Some x) × (is_signed_literal x ≡ false)))
-set_decides S s None = (λ e. absurd (cc e), λ h. absurd (let e = h.1.1 in cc e))
-set_decides S s (Some x) = (λ e. (s, (x, refl, (falsity (is_signed_literal x)).0 e)), λ h. (falsity (is_signed_literal x)).1 (same h.1.0 h.1.1 ∙ h.1.2))
-  where
-    same : (y : t.Expr) → Some x ≡ Some y → is_signed_literal x ≡ is_signed_literal y
-    same y e = ap is_signed_literal (cc e)
-
 -- ---- S19
 
 names_decide : (text : List ℕ) (names : List (List ℕ)) → Decides (list_any (bytes_eq text) names) (Contains names text)

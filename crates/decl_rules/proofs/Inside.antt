@@ -4,8 +4,8 @@ use Rattle.std.specs.Prelude.{Contains, Decides, ◌≢◌}
 use Rattle.std.proofs.lemmas.Bool.Decides.{Decides-and}
 use Rattle.java_tree.specs.declared.tree.Name.{Name}
 use Rattle.java_tree.specs.Plain as t
-use Rattle.java_tree.specs.Children as c
-use Rattle.java_tree.specs.Children.{Item, children}
+use Rattle.decl_rules.specs.Children as c
+use Rattle.decl_rules.specs.Children.{Item, children}
 use Rattle.rule_order.specs.declared.Breach.{Breach}
 use Rattle.rule_order.specs.First.{Breaches, Either}
 use Rattle.rule_order.specs.Noted.{At, SomeOf}

@@ -18,40 +18,20 @@ use Rattle.rule_order.proofs.Lists.{some_none, some_more}
 use Rattle.decl_rules.proofs.Walking.{file_adds}
 use Rattle.decl_rules.proofs.Deciding.{truth, falsity, some_decides, has_decides, set_decides, takes_decides}
 
--- the variables of a field that is static if S holds
-abbrev SetVars : Type 0 → t.Var → Breaches
-SetVars S v = At 16 v.node (S × ((x : t.Expr) × (v.init ≡ Some x) × (is_signed_literal x ≡ false)))
-
-static_vars : (S : Type 0) → S → (vs : List t.Var) (a : Option Breach) → Adds (SomeOf vs (SetVars S)) a (spec.set_vars vs a)
-static_vars S s [] a = some_none (SetVars S) a
-static_vars S s (v ∷ vs) a =
-    let m = noted a 16 v.node (spec.is_set v.init) in
-    some_more (SetVars S) v vs a m (spec.set_vars vs m) (adds_noted 16 v.node _ (spec.is_set v.init) a (set_decides S s v.init)) (static_vars S s vs m)
-
-field_vars : (S : Type 0) (holds : Bool) → Decides holds S → (vs : List t.Var) (a : Option Breach) → Adds (SomeOf vs (SetVars S)) a (if holds then spec.set_vars vs a else a)
-field_vars S true d vs a = static_vars S (d.0 refl) vs a
-field_vars S false d vs a = adds_nothing (SomeOf vs (SetVars S)) a (λ b h. absurd (let e = d.1 h.2.2.0 in cc e))
-
 protected_decides : (user : Bool) (ms : List Mod) → Decides (not user && spec.has mods.Protected ms) ((user ≡ false) × Contains ms mods.Protected)
 protected_decides user ms = Decides-and (not user) (spec.has mods.Protected ms) (falsity user) (has_decides mods.Protected ms)
 
 plain_member_adds : (user : Bool) (names : List (List ℕ)) (d : t.TypeDecl) (m : t.Member) (a : Option Breach) → Adds (MemberBreaks user names d m) a (spec.plain_member user names d m a)
 plain_member_adds user names d (t.AField f) a =
     let member = t.AField f in
-    let is_static = d.interface || spec.has mods.Static f.mods in
-    let i = if is_static then spec.set_vars f.vars a else a in
-    let j = noted i 18 f.node (not user && spec.has mods.Protected f.mods) in
-    adds_both (SetsStatic d member) (Either (IsProtected user member) (TakesName names member)) a i j
-    (field_vars (IsStatic d f) is_static (Decides-or d.interface (spec.has mods.Static f.mods) (truth d.interface) (has_decides mods.Static f.mods)) f.vars a)
-    (adds_both (IsProtected user member) (TakesName names member) i j j (adds_noted 18 f.node _ _ i (protected_decides user f.mods)) (adds_nothing (TakesName names member) j (λ b h. h)))
+    let j = noted a 18 f.node (not user && spec.has mods.Protected f.mods) in
+    adds_both (IsProtected user member) (TakesName names member) a j j (adds_noted 18 f.node _ _ a (protected_decides user f.mods)) (adds_nothing (TakesName names member) j (λ b h. h))
 plain_member_adds user names d (t.AMethod m) a =
     let member = t.AMethod m in
     let i = noted a 18 m.node (not user && spec.has mods.Protected m.mods) in
     let j = noted i 19 m.node (spec.takes_name names m) in
-    adds_both (SetsStatic d member) (Either (IsProtected user member) (TakesName names member)) a a j
-    (adds_nothing (SetsStatic d member) a (λ b h. h))
-    (adds_both (IsProtected user member) (TakesName names member) a i j (adds_noted 18 m.node _ _ a (protected_decides user m.mods))
-    (adds_noted 19 m.node _ (spec.takes_name names m) i (takes_decides names m)))
+    adds_both (IsProtected user member) (TakesName names member) a i j (adds_noted 18 m.node _ _ a (protected_decides user m.mods))
+    (adds_noted 19 m.node _ (spec.takes_name names m) i (takes_decides names m))
 
 plain_members_add : (user : Bool) (names : List (List ℕ)) (d : t.TypeDecl) (ms : List t.Member) (a : Option Breach)
     → Adds (SomeOf ms (MemberBreaks user names d)) a (spec.plain_members user names d ms a)

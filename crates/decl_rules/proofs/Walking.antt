@@ -9,8 +9,8 @@ use Rattle.java_tree.specs.declared.tree.Head.TheVariants as head
 use Rattle.java_tree.specs.declared.tree.Import.{Import}
 use Rattle.java_tree.specs.Plain as t
 use Rattle.java_tree.specs.View as view
-use Rattle.java_tree.specs.Children as c
-use Rattle.java_tree.specs.Children.{Item, children}
+use Rattle.decl_rules.specs.Children as c
+use Rattle.decl_rules.specs.Children.{Item, children}
 use Rattle.rule_order.specs.declared.Breach.{Breach}
 use Rattle.rule_order.specs.First.{Breaches, Either}
 use Rattle.rule_order.specs.Noted.{At, SomeOf, Adds, noted}

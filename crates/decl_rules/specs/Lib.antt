@@ -1,3 +1,4 @@
+pub mod Children
 pub mod Parts
 pub mod Generic
 pub mod PlainRules

@@ -26,16 +26,6 @@ abbrev pub is_nil : {A : Type 0} → List A → Bool
 is_nil [] = true
 is_nil (x ∷ xs) = false
 
--- ---- S16
-
-abbrev pub is_set : Option Expr → Bool
-is_set None = false
-is_set (Some x) = not (is_signed_literal x)
-
-abbrev pub set_vars : Walk (List Var)
-set_vars [] a = a
-set_vars (v ∷ vs) a = set_vars vs (noted a 16 v.node (is_set v.init))
-
 -- ---- S19
 
 abbrev pub is_left_out : (alone : Bool) → Option (List ℕ) → Bool
@@ -45,11 +35,10 @@ is_left_out alone (Some text) = bytes_eq text (codes "wait") || (alone && list_a
 abbrev pub takes_name : List (List ℕ) → MethodDecl → Bool
 takes_name names m = not m.constructor && is_left_out (is_nil m.params) (slice_get names m.name.0)
 
--- ---- S10, S16, S18, S19
+-- ---- S10, S18, S19
 
 abbrev pub plain_member : (user : Bool) → List (List ℕ) → TypeDecl → Walk Member
-plain_member user names d (t.AField f) a =
-    noted (if d.interface || has mods.Static f.mods then set_vars f.vars a else a) 18 f.node (not user && has mods.Protected f.mods)
+plain_member user names d (t.AField f) a = noted a 18 f.node (not user && has mods.Protected f.mods)
 plain_member user names d (t.AMethod m) a = noted (noted a 18 m.node (not user && has mods.Protected m.mods)) 19 m.node (takes_name names m)
 
 abbrev pub plain_members : (user : Bool) → List (List ℕ) → TypeDecl → Walk (List Member)

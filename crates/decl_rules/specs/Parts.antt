@@ -5,7 +5,7 @@ use Rattle.java_tree.specs.declared.tree.Head.{Head}
 use Rattle.java_tree.specs.declared.tree.Mod.{Mod}
 use Rattle.java_tree.specs.Plain.{TypeExpr, TypeExprs, Member}
 use Rattle.java_tree.specs.Plain as t
-use Rattle.java_tree.specs.Children.{Item, children}
+use Rattle.decl_rules.specs.Children.{Item, children}
 use Rattle.rule_order.specs.First.{Breaches}
 
 -- the second node stands in the first, or is it

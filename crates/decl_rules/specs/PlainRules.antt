@@ -7,8 +7,8 @@ use Rattle.java_tree.specs.declared.tree.Mod.TheVariants as mods
 use Rattle.java_tree.specs.declared.tree.UnOp.TheVariants as op
 use Rattle.java_tree.specs.Plain as t
 use Rattle.java_tree.specs.Plain.{SourceUnit, TypeDecl, FieldDecl, MethodDecl, Member, TypeExpr, Var, Expr}
-use Rattle.java_tree.specs.Children as c
-use Rattle.java_tree.specs.Children.{Item}
+use Rattle.decl_rules.specs.Children as c
+use Rattle.decl_rules.specs.Children.{Item}
 use Rattle.rule_order.specs.First.{Breaches, Either}
 use Rattle.rule_order.specs.Noted.{At, Nowhere, SomeOf}
 use Rattle.decl_rules.specs.Parts.{SomeWithin, node_of, head_of, args_of, dims_of, mods_of, member_node}
@@ -64,29 +64,6 @@ WrittenBreaks u generic =
 abbrev pub TypeBreaks : (user : Bool) → TypeDecl → Breaches
 TypeBreaks user d = Either (At 10 d.node ((user ≡ true) × (d.params ≢ []))) (At 18 d.node ((user ≡ false) × Contains d.mods mods.Protected))
 
--- a literal (JLS 3.10)
-abbrev pub is_literal : Expr → Bool
-is_literal (t.Number n x d l) = true
-is_literal (t.Char n x) = true
-is_literal (t.Text n x) = true
-is_literal (t.Truth n x) = true
-is_literal (t.Null n) = true
-is_literal _ = false
-
--- a literal, or a minus and a literal
-abbrev pub is_signed_literal : Expr → Bool
-is_signed_literal (t.Unary n op.Minus x) = is_literal x
-is_signed_literal x = is_literal x
-
--- a field of an interface is static, written or not (JLS 9.3)
-abbrev pub IsStatic : TypeDecl → FieldDecl → Type 0
-IsStatic d f = (d.interface ≡ true) ⊎ Contains f.mods mods.Static
-
--- S16: the initialiser of a static field is not a literal with an optional minus.
-abbrev pub SetsStatic : TypeDecl → Member → Breaches
-SetsStatic d (t.AField f) = SomeOf f.vars (λ v. At 16 v.node (IsStatic d f × ((x : Expr) × (v.init ≡ Some x) × (is_signed_literal x ≡ false))))
-SetsStatic d (t.AMethod m) = Nowhere
-
 -- S18, of a library file: a member is protected.
 abbrev pub IsProtected : (user : Bool) → Member → Breaches
 IsProtected user m = At 18 (member_node m) ((user ≡ false) × Contains (mods_of m) mods.Protected)
@@ -104,9 +81,9 @@ TakesName names (t.AField f) = Nowhere
 TakesName names (t.AMethod m) = At 19 m.node ((m.constructor ≡ false) × ((text : List ℕ) × (slice_get names m.name.0 ≡ Some text) × IsLeftOut m text))
 
 abbrev pub MemberBreaks : (user : Bool) → (names : List (List ℕ)) → TypeDecl → Member → Breaches
-MemberBreaks user names d m = Either (SetsStatic d m) (Either (IsProtected user m) (TakesName names m))
+MemberBreaks user names d m = Either (IsProtected user m) (TakesName names m)
 
--- S10, S12, S13, S16, S17, S18 and S19, in a user's file or one of a library
+-- S10, S12, S13, S17, S18 and S19, in a user's file or one of a library
 abbrev pub BreaksPlain : SourceUnit → (user : Bool) → (names : List (List ℕ)) → (generic : Name → Bool) → Breaches
 BreaksPlain u user names generic =
     Either (WrittenBreaks u generic) (SomeOf u.types (λ d. Either (TypeBreaks user d) (SomeOf d.members (MemberBreaks user names d))))

@@ -17,7 +17,7 @@ use java_tree::tree::{Expr, ExprForm, Member, Mod, Name, Param, SourceUnit, Type
 use java_tree::{Items, Names};
 use rule_order::{Breach, noted};
 
-/// The first of S10, S12, S13, S16, S17, S18 and S19 that a file breaks: at the first node, and there the rule with the lowest number. `user` says whether it is a
+/// The first of S10, S12, S13, S17, S18 and S19 that a file breaks: at the first node, and there the rule with the lowest number. `user` says whether it is a
 /// user's file (S10) or one of a library (S18), and `generics` has the names that mean generic types in it (S12). Node numbers are those of the tree.
 pub fn first_plain<G: GenericNames>(
     unit: &SourceUnit,
@@ -86,15 +86,7 @@ fn look_at_member(
     ensures { result ≡ spec.plain_member user names.now (decl_plain d.now) (member_plain m.now) first }
 {
     match m {
-        Member::Field {
-            node,
-            mods,
-            vars,
-            ..
-        } => {
-            let first = look_at_vars(d.interface || has(Mod::Static, mods), vars, first);
-            noted(first, 18, *node, is_protected(user, mods))
-        }
+        Member::Field { node, mods, .. } => noted(first, 18, *node, is_protected(user, mods)),
         Member::Method {
             node,
             mods,
@@ -107,54 +99,6 @@ fn look_at_member(
             let takes = !*constructor && is_left_out(is_alone(params), text_of(names, *name));
             noted(first, 19, *node, takes)
         }
-    }
-}
-
-// The variables of a field, which may be static.
-fn look_at_vars(is_static: bool, vars: &Items<Var>, mut first: Option<Breach>) -> Option<Breach>
-    ensures { result ≡ (if is_static then spec.set_vars (map var_plain vars.now) first else first) }
-{
-    if !is_static {
-        return first;
-    }
-    for v in vars.as_slice() {
-        first = noted(first, 16, v.node, is_set(&v.init));
-    }
-    first
-}
-
-// Whether an initialiser is there, and no literal with an optional minus.
-fn is_set(init: &Option<Expr>) -> bool
-    ensures { result ≡ spec.is_set (option_map plain init.now) }
-{
-    match init {
-        None => false,
-        Some(x) => !is_signed_literal(x),
-    }
-}
-
-fn is_signed_literal(x: &Expr) -> bool
-    ensures { result ≡ rule.is_signed_literal (plain x.now) }
-{
-    match &x.form {
-        ExprForm::Unary { op, of } => match op {
-            UnOp::Minus => is_literal(of.get()),
-            UnOp::Plus | UnOp::Invert | UnOp::Not => false,
-        },
-        _ => is_literal(x),
-    }
-}
-
-fn is_literal(x: &Expr) -> bool
-    ensures { result ≡ rule.is_literal (plain x.now) }
-{
-    match &x.form {
-        ExprForm::Number { .. }
-        | ExprForm::Char(_)
-        | ExprForm::Text(_)
-        | ExprForm::Bool(_)
-        | ExprForm::Null => true,
-        _ => false,
     }
 }
 

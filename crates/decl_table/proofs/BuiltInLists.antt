@@ -37,7 +37,7 @@ built_in_item (r ∷ rows) k (suc j) x e =
 
 abbrev has_super : Option ℕ → Bool
 has_super None = false
-has_super (Some p) = nat_lt p 16
+has_super (Some p) = nat_lt p 19
 
 pub all_at : {A : Type 0} (test : A → Bool) (xs : List A) (j : ℕ) (x : A) → list_all test xs ≡ true → slice_get xs j ≡ Some x → test x ≡ true
 all_at test [] j x all e = absurd (cc e)
@@ -53,11 +53,11 @@ all_at test (y ∷ ys) (suc j) x all e = all_at test ys j x (rest (test y) (list
     rest false b h = absurd (cc h)
 
 -- Object has no superclass, and each other built-in type has one.
-pub row_cases : (j : ℕ) (row : Option ℕ) → slice_get SUPERCLASSES j ≡ Some row → ((j ≡ 0) × (row ≡ None)) ⊎ ((0 < j) × ((p : ℕ) × (row ≡ Some p) × (p < 16)))
+pub row_cases : (j : ℕ) (row : Option ℕ) → slice_get SUPERCLASSES j ≡ Some row → ((j ≡ 0) × (row ≡ None)) ⊎ ((0 < j) × ((p : ℕ) × (row ≡ Some p) × (p < 19)))
 row_cases zero row e = let same : None ≡ row = cc e in inl (refl, sym same)
 row_cases (suc j) row e = inr (omega arith, has row (all_at has_super (drop 1 SUPERCLASSES) j row refl e))
   where
-    has : (r : Option ℕ) → has_super r ≡ true → (p : ℕ) × (r ≡ Some p) × (p < 16)
+    has : (r : Option ℕ) → has_super r ≡ true → (p : ℕ) × (r ≡ Some p) × (p < 19)
     has None h = absurd (cc h)
     has (Some p) h = (p, refl, grind (arith, nat_tests, h))
 

@@ -22,7 +22,7 @@ use Rattle.decl_table.proofs.Facts.{one_there}
 
 -- a type of the world that is below two has a declaration
 pub declared_clash : (built : BuiltIns) (j : JavaNames) (fs : List File) → AreBases built.types → (c : ℕ) → IsClassBelowTwo (world_of built j fs) c
-    → (k : ℕ) × (x : Declaration) × (c ≡ 16 + k) × (slice_get (declarations fs) k ≡ Some x) × ((info : TypeInfo) × (slice_get (world_of built j fs).types c ≡ Some info) × (info.node ≡ Some x.decl.node.id))
+    → (k : ℕ) × (x : Declaration) × (c ≡ 19 + k) × (slice_get (declarations fs) k ≡ Some x) × ((info : TypeInfo) × (slice_get (world_of built j fs).types c ≡ Some info) × (info.node ≡ Some x.decl.node.id))
 declared_clash built j fs bases c below =
     elim (type_at built j fs c below.0 bases.count below.1) [
       | inl h ↦ absurd (not_below_two built.types (world_of built j fs) bases (λ i info e. get_front built.types _ i info e) c (let low = slice_get_within built.types c below.0 h in omega (arith, low, bases.count)) below)
@@ -39,7 +39,7 @@ first_clash built j fs bases None (inr (c, first, bare)) =
     absurd (let x = declared_clash built j fs bases c first.0 in cc (sym bare ∙ node_here (world_of built j fs) c x.4.0 x.4.1 ∙ x.4.2))
 first_clash built j fs bases (Some b) (c, first, at, rule) = ((c, x.4.0, x.4.1, first, b.node, own, refl, rule), before)
   where
-    x : (k : ℕ) × (x : Declaration) × (c ≡ 16 + k) × (slice_get (declarations fs) k ≡ Some x) × ((info : TypeInfo) × (slice_get (world_of built j fs).types c ≡ Some info) × (info.node ≡ Some x.decl.node.id))
+    x : (k : ℕ) × (x : Declaration) × (c ≡ 19 + k) × (slice_get (declarations fs) k ≡ Some x) × ((info : TypeInfo) × (slice_get (world_of built j fs).types c ≡ Some info) × (info.node ≡ Some x.decl.node.id))
     x = declared_clash built j fs bases c first.0
 
     own : x.4.0.node ≡ Some b.node

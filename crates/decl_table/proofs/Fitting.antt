@@ -28,13 +28,13 @@ count_from i (f ∷ fs) =
     ∙ ap (λ n. length f.unit.types + n) (count_from (i + 1) fs)
     ∙ sym (length-append _ (declarations_from (i + 1) fs) ∙ ap (λ n. n + length (declarations_from (i + 1) fs)) (length-map f.unit.types (made i f)))
 
-pub count_headers : (j : JavaNames) (built : List TypeInfo) (fs : List File) → length built ≡ 16 → length (types_of j fs) ≡ length (headers built fs)
-count_headers j built fs sixteen =
-    let a = length-append (map (built_in_type j) (numbers_below 16)) (flat_map types_in fs) in
-    let b : length (map (built_in_type j) (numbers_below 16)) ≡ 16 = length-map (numbers_below 16) (built_in_type j) in
+pub count_headers : (j : JavaNames) (built : List TypeInfo) (fs : List File) → length built ≡ 19 → length (types_of j fs) ≡ length (headers built fs)
+count_headers j built fs nineteen =
+    let a = length-append (map (built_in_type j) (numbers_below 19)) (flat_map types_in fs) in
+    let b : length (map (built_in_type j) (numbers_below 19)) ≡ 19 = length-map (numbers_below 19) (built_in_type j) in
     let c = length-append built (map header (declarations fs)) in
     let d = length-map (declarations fs) header in
-    a ∙ (let e : length (map (built_in_type j) (numbers_below 16)) + length (flat_map types_in fs) ≡ length built + length (map header (declarations fs)) = omega (arith, b, d, sixteen, count_from 0 fs) in e) ∙ sym c
+    a ∙ (let e : length (map (built_in_type j) (numbers_below 19)) + length (flat_map types_in fs) ≡ length built + length (map header (declarations fs)) = omega (arith, b, d, nineteen, count_from 0 fs) in e) ∙ sym c
 
 pub or_parts : {A : Type 0} (a b : Option A) (x : A) → option_or a b ≡ Some x → (a ≡ Some x) ⊎ (b ≡ Some x)
 or_parts None b x e = inr e
@@ -59,9 +59,9 @@ get_there [] k lt = absurd (omega (arith, lt))
 get_there (x ∷ xs) zero lt = (x, refl)
 get_there (x ∷ xs) (suc k) lt = get_there xs k (omega (arith, lt))
 
-pub place_fits : (j : JavaNames) (built : List TypeInfo) (fs : List File) (w : World) (x : Declaration) → length built ≡ 16 → HaveParams (headers built fs) w
+pub place_fits : (j : JavaNames) (built : List TypeInfo) (fs : List File) (w : World) (x : Declaration) → length built ≡ 19 → HaveParams (headers built fs) w
     → Fits (place_of j fs (headers built fs) x) w (length x.decl.params)
-place_fits j built fs w x sixteen same = record { known = known; vars = refl }
+place_fits j built fs w x nineteen same = record { known = known; vars = refl }
   where
     types : List TypeInfo
     types = headers built fs
@@ -70,6 +70,6 @@ place_fits j built fs w x sixteen same = record { known = known; vars = refl }
         → (info : TypeInfo) × (slice_get w.types c ≡ Some info) × (option_map (λ (i : TypeInfo). i.params) (slice_get (headers built fs) c) ≡ Some info.params)
     known n c e =
         let low = meant_low j fs x.file n c e in
-        let at = get_there (headers built fs) c (subst (λ k. c < k) (count_headers j built fs sixteen) low) in
+        let at = get_there (headers built fs) c (subst (λ k. c < k) (count_headers j built fs nineteen) low) in
         let own = same c at.0 at.1 in
         (own.0, own.1, ap (option_map (λ (i : TypeInfo). i.params)) at.1 ∙ ap Some (sym own.2))

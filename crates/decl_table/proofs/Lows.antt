@@ -19,14 +19,14 @@ abbrev pub BeginsWith : List TypeInfo → World → Type 0
 BeginsWith built w = (c : ℕ) (info : TypeInfo) → slice_get built c ≡ Some info → slice_get w.types c ≡ Some info
 
 abbrev IsLow : JavaType → Type 0
-IsLow t = (p : ℕ) × (p < 16) × (t ≡ ty.Class p [])
+IsLow t = (p : ℕ) × (p < 19) × (t ≡ ty.Class p [])
 
 -- what a base's declared supertype is seen as
 seen_low : (n : ℕ) (d t : JavaType) → n ≡ 0 → IsLow d → IsSeenAs n [] d t → IsLow t
 seen_low n d t none low (inr (bare, some, is)) = absurd (omega (arith, none, some))
 seen_low n d t none low (inl (count, is)) = (low.0, low.1, is ∙ ap (substitute []) low.2 ∙ put_class [] low.0 [])
 
-up_low : (built : List TypeInfo) (w : World) → AreBases built → BeginsWith built w → (s t : JavaType) → Subtype w s t → (c : ℕ) → c < 16 → s ≡ ty.Class c [] → IsLow t
+up_low : (built : List TypeInfo) (w : World) → AreBases built → BeginsWith built w → (s t : JavaType) → Subtype w s t → (c : ℕ) → c < 19 → s ≡ ty.Class c [] → IsLow t
 up_low built w bases front s t same c lt e = (c, lt, e)
 up_low built w bases front s t (through {m = m} first rest) c lt e =
     let mid = up_low built w bases front s m first c lt e in
@@ -45,7 +45,7 @@ up_low built w bases front s t (arrays {s = x} f g h) c lt e = absurd (cc (array
 up_low built w bases front s t char_int c lt e = absurd (cc e)
 up_low built w bases front s t int_long c lt e = absurd (cc e)
 
-pub not_below_two : (built : List TypeInfo) (w : World) → AreBases built → BeginsWith built w → (c : ℕ) → c < 16 → IsClassBelowTwo w c → ⊥
+pub not_below_two : (built : List TypeInfo) (w : World) → AreBases built → BeginsWith built w → (c : ℕ) → c < 19 → IsClassBelowTwo w c → ⊥
 not_below_two built w bases front c lt (info, at, g, (t, u, (args, is, some), other, up, below, apart)) =
     let base = get_there built c (omega (arith, lt, bases.count)) in
     let one : info ≡ base.0 = one_there (slice_get w.types c) info base.0 at (front c base.0 base.1) in

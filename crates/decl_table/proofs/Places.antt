@@ -104,10 +104,10 @@ pub whole : (types : List declared.TypeDecl) (n : ℕ) → length types ≤ n �
 whole types n h = take_all n (map decl_plain types) (omega (arith, length-map types decl_plain))
 
 -- a name that an earlier type has
-pub twice : (ds : List TypeDecl) (n : ℕ) (d : TypeDecl) (o : Option ℕ) → slice_get ds n ≡ Some d → o ≡ place_of d.name.0 (take n ds) 16 → is_some o ≡ true → HaveOwnNames ds → ⊥
+pub twice : (ds : List TypeDecl) (n : ℕ) (d : TypeDecl) (o : Option ℕ) → slice_get ds n ≡ Some d → o ≡ place_of d.name.0 (take n ds) 19 → is_some o ≡ true → HaveOwnNames ds → ⊥
 twice ds n d None h e some own = absurd (cc some)
 twice ds n d (Some p) h e some own =
-    let before = placed d.name.0 (take n ds) 16 p (sym e) in
+    let before = placed d.name.0 (take n ds) 19 p (sym e) in
     let front = in_front ds n before.at before.decl before.stands in
     let same = own.differ before.at n before.decl d front.1 h before.name in
     absurd (omega (arith, front.0))
@@ -117,7 +117,7 @@ not_some None e = refl
 not_some (Some p) e = absurd (cc e)
 
 -- one type more with a name of its own
-pub own_more : (ds : List TypeDecl) (n : ℕ) (d : TypeDecl) → slice_get ds n ≡ Some d → 16 ≤ d.name.0 → place_of d.name.0 (take n ds) 16 ≡ None
+pub own_more : (ds : List TypeDecl) (n : ℕ) (d : TypeDecl) → slice_get ds n ≡ Some d → 19 ≤ d.name.0 → place_of d.name.0 (take n ds) 19 ≡ None
     → HaveOwnNames (take n ds) → HaveOwnNames (take (n + 1) ds)
 own_more ds n d h big new own = record { high = high; differ = differ }
   where
@@ -134,41 +134,41 @@ own_more ds n d h big new own = record { high = high; differ = differ }
         inr (is, ap (λ (y : TypeDecl). y.name.0) one))
         (cases_lt k n)
 
-    high : (k : ℕ) (x : TypeDecl) → slice_get (take (n + 1) ds) k ≡ Some x → 16 ≤ x.name.0
+    high : (k : ℕ) (x : TypeDecl) → slice_get (take (n + 1) ds) k ≡ Some x → 19 ≤ x.name.0
     high k x e = elim (split k x e) [ inl s ↦ own.high k x s | inr s ↦ omega (arith, s.1) ]
 
     differ : (j k : ℕ) (a b : TypeDecl) → slice_get (take (n + 1) ds) j ≡ Some a → slice_get (take (n + 1) ds) k ≡ Some b → a.name.0 ≡ b.name.0 → j ≡ k
     differ j k a b e f same = elim (split j a e) [
       | inl s ↦ elim (split k b f) [
         | inl t ↦ own.differ j k a b s t same
-        | inr t ↦ absurd (unplaced d.name.0 (take n ds) 16 new j a s (same ∙ t.1))
+        | inr t ↦ absurd (unplaced d.name.0 (take n ds) 19 new j a s (same ∙ t.1))
       ]
       | inr s ↦ elim (split k b f) [
-        | inl t ↦ absurd (unplaced d.name.0 (take n ds) 16 new k b t (sym same ∙ s.1))
+        | inl t ↦ absurd (unplaced d.name.0 (take n ds) 19 new k b t (sym same ∙ s.1))
         | inr t ↦ s.0 ∙ sym t.0
       ]
     ]
 
 -- the places with one type more
-pub place_more : (ds : List TypeDecl) (n : ℕ) (d : TypeDecl) (q : ℕ) → slice_get ds n ≡ Some d → place_of d.name.0 (take n ds) 16 ≡ None
-    → place_of q (take (n + 1) ds) 16 ≡ cond (eqb d.name.0 q) (Some (16 + n)) (place_of q (take n ds) 16)
-place_more ds n d q h new = ap (λ xs. place_of q xs 16) (front_more ds n d h) ∙ ⊎_elim here other (cases_eq d.name.0 q)
+pub place_more : (ds : List TypeDecl) (n : ℕ) (d : TypeDecl) (q : ℕ) → slice_get ds n ≡ Some d → place_of d.name.0 (take n ds) 19 ≡ None
+    → place_of q (take (n + 1) ds) 19 ≡ cond (eqb d.name.0 q) (Some (19 + n)) (place_of q (take n ds) 19)
+place_more ds n d q h new = ap (λ xs. place_of q xs 19) (front_more ds n d h) ∙ ⊎_elim here other (cases_eq d.name.0 q)
   where
-    size : 16 + n ≡ 16 + length (take n ds)
+    size : 19 + n ≡ 19 + length (take n ds)
     size = let within = slice_get_within ds n d h in omega (arith, length-take-le {A = TypeDecl} n ds (omega arith))
 
-    here : d.name.0 ≡ q → place_of q (take n ds ++ d ∷ []) 16 ≡ cond (eqb d.name.0 q) (Some (16 + n)) (place_of q (take n ds) 16)
+    here : d.name.0 ≡ q → place_of q (take n ds ++ d ∷ []) 19 ≡ cond (eqb d.name.0 q) (Some (19 + n)) (place_of q (take n ds) 19)
     here is =
         let test : eqb d.name.0 q ≡ true = grind (arith, nat_tests) in
-        let none : place_of q (take n ds) 16 ≡ None = ap (λ x. place_of x (take n ds) 16) (sym is) ∙ new in
-        rw test (place_right q (take n ds) (d ∷ []) 16 (16 + n) size none ∙ place_here q d [] (16 + n) is)
+        let none : place_of q (take n ds) 19 ≡ None = ap (λ x. place_of x (take n ds) 19) (sym is) ∙ new in
+        rw test (place_right q (take n ds) (d ∷ []) 19 (19 + n) size none ∙ place_here q d [] (19 + n) is)
 
-    other : d.name.0 ≢ q → place_of q (take n ds ++ d ∷ []) 16 ≡ cond (eqb d.name.0 q) (Some (16 + n)) (place_of q (take n ds) 16)
+    other : d.name.0 ≢ q → place_of q (take n ds ++ d ∷ []) 19 ≡ cond (eqb d.name.0 q) (Some (19 + n)) (place_of q (take n ds) 19)
     other ne =
         let test : eqb d.name.0 q ≡ false = grind (arith, nat_tests) in
-        rw test (elim (option_cases (place_of q (take n ds) 16)) [
-          | inl none ↦ place_right q (take n ds) (d ∷ []) 16 (16 + n) size none ∙ place_later q d [] (16 + n) ne ∙ sym none
-          | inr some ↦ place_left q (take n ds) (d ∷ []) 16 some.0 some.1 ∙ sym some.1
+        rw test (elim (option_cases (place_of q (take n ds) 19)) [
+          | inl none ↦ place_right q (take n ds) (d ∷ []) 19 (19 + n) size none ∙ place_later q d [] (19 + n) ne ∙ sym none
+          | inr some ↦ place_left q (take n ds) (d ∷ []) 19 some.0 some.1 ∙ sym some.1
         ])
 
 -- ---- main's class aside
@@ -186,7 +186,7 @@ length-before_last (x ∷ []) = omega arith
 length-before_last (x ∷ y ∷ ds) = let h = length-before_last (y ∷ ds) in omega arith
 
 pub without_last : (ds : List TypeDecl) (n : ℕ) (d : TypeDecl) (q : ℕ) → n + 1 ≡ length ds → slice_get ds n ≡ Some d → HaveOwnNames ds
-    → cond (eqb d.name.0 q) None (place_of q ds 16) ≡ place_of q (before_last ds) 16
+    → cond (eqb d.name.0 q) None (place_of q ds 19) ≡ place_of q (before_last ds) 19
 without_last ds n d q size h own = ⊎_elim here other (cases_eq d.name.0 q)
   where
     split : ds ≡ before_last ds ++ d ∷ []
@@ -198,20 +198,20 @@ without_last ds n d q size h own = ⊎_elim here other (cases_eq d.name.0 q)
         let inside = slice_get_within (before_last ds) j x e in
         (omega (arith, length-before_last ds), ap (λ xs. slice_get xs j) split ∙ get_front (before_last ds) (d ∷ []) j x e)
 
-    here : d.name.0 ≡ q → cond (eqb d.name.0 q) None (place_of q ds 16) ≡ place_of q (before_last ds) 16
+    here : d.name.0 ≡ q → cond (eqb d.name.0 q) None (place_of q ds 19) ≡ place_of q (before_last ds) 19
     here is =
         let test : eqb d.name.0 q ≡ true = grind (arith, nat_tests) in
-        rw test (sym (none_before q (before_last ds) 16 (λ j x e same.
+        rw test (sym (none_before q (before_last ds) 19 (λ j x e same.
         let b = before j x e in
         let at : j ≡ n = own.differ j n x d b.1 h (same ∙ sym is) in
         absurd (omega (arith, b.0)))))
 
-    other : d.name.0 ≢ q → cond (eqb d.name.0 q) None (place_of q ds 16) ≡ place_of q (before_last ds) 16
+    other : d.name.0 ≢ q → cond (eqb d.name.0 q) None (place_of q ds 19) ≡ place_of q (before_last ds) 19
     other ne =
         let test : eqb d.name.0 q ≡ false = grind (arith, nat_tests) in
-        rw test (ap (λ xs. place_of q xs 16) split ∙ elim (option_cases (place_of q (before_last ds) 16)) [
-          | inl none ↦ place_right q (before_last ds) (d ∷ []) 16 (16 + length (before_last ds)) refl none ∙ place_later q d [] (16 + length (before_last ds)) ne ∙ sym none
-          | inr some ↦ place_left q (before_last ds) (d ∷ []) 16 some.0 some.1 ∙ sym some.1
+        rw test (ap (λ xs. place_of q xs 19) split ∙ elim (option_cases (place_of q (before_last ds) 19)) [
+          | inl none ↦ place_right q (before_last ds) (d ∷ []) 19 (19 + length (before_last ds)) refl none ∙ place_later q d [] (19 + length (before_last ds)) ne ∙ sym none
+          | inr some ↦ place_left q (before_last ds) (d ∷ []) 19 some.0 some.1 ∙ sym some.1
         ])
 
 -- the last type of the code's list, seen plainly
@@ -231,8 +231,8 @@ no_last (x ∷ xs) e =
 
 -- ---- the number of the type of a name, main's class too
 
-pub built_in_number : (ds : List TypeDecl) (n : Name) → 16 ≤ n.0 → type_number ds n ≡ place_of n.0 ds 16
-built_in_number ds n h = let test : nat_lt n.0 16 ≡ false = grind (arith, nat_tests) in rw test refl
+pub built_in_number : (ds : List TypeDecl) (n : Name) → 19 ≤ n.0 → type_number ds n ≡ place_of n.0 ds 19
+built_in_number ds n h = let test : nat_lt n.0 19 ≡ false = grind (arith, nat_tests) in rw test refl
 
 -- a type before the last one is at its place in the whole list
 place_of_front : (q : ℕ) (ds : List TypeDecl) (k p : ℕ) → place_of q (before_last ds) k ≡ Some p → place_of q ds k ≡ Some p
@@ -243,12 +243,12 @@ place_of_front q (x ∷ y ∷ ds) k p e = ⊎_elim
     (λ ne. place_later q x (y ∷ ds) k ne ∙ place_of_front q (y ∷ ds) (k + 1) p (sym (place_later q x (before_last (y ∷ ds)) k ne) ∙ e))
     (cases_eq x.name.0 q)
 
-pub named_before : (ds : List TypeDecl) (n : Name) (p : ℕ) → 16 ≤ n.0 → place_of n.0 (before_last ds) 16 ≡ Some p → type_number ds n ≡ Some p
-named_before ds n p h e = built_in_number ds n h ∙ place_of_front n.0 ds 16 p e
+pub named_before : (ds : List TypeDecl) (n : Name) (p : ℕ) → 19 ≤ n.0 → place_of n.0 (before_last ds) 19 ≡ Some p → type_number ds n ≡ Some p
+named_before ds n p h e = built_in_number ds n h ∙ place_of_front n.0 ds 19 p e
 
-pub named_last : (ds : List TypeDecl) (n : Name) (k : ℕ) (d : TypeDecl) → 16 ≤ n.0 → place_of n.0 (before_last ds) 16 ≡ None → k + 1 ≡ length ds → slice_get ds k ≡ Some d
-    → type_number ds n ≡ cond (eqb d.name.0 n.0) (Some (16 + k)) None
+pub named_last : (ds : List TypeDecl) (n : Name) (k : ℕ) (d : TypeDecl) → 19 ≤ n.0 → place_of n.0 (before_last ds) 19 ≡ None → k + 1 ≡ length ds → slice_get ds k ≡ Some d
+    → type_number ds n ≡ cond (eqb d.name.0 n.0) (Some (19 + k)) None
 named_last ds n k d h e size at =
     built_in_number ds n h
-    ∙ ap (λ xs. place_of n.0 xs 16) (last_apart k ds d size at)
-    ∙ place_right n.0 (before_last ds) (d ∷ []) 16 (16 + k) (omega (arith, length-before_last ds)) e
+    ∙ ap (λ xs. place_of n.0 xs 19) (last_apart k ds d size at)
+    ∙ place_right n.0 (before_last ds) (d ∷ []) 19 (19 + k) (omega (arith, length-before_last ds)) e

@@ -36,7 +36,7 @@ super_edge built j fs bases c g args (info, at, k, there) =
     ]
 
 -- built-in types rise to lower numbers
-edge_low : (built : BuiltIns) (j : JavaNames) (fs : List File) → AreBases built.types → (c g : ℕ) → c < 16 → IsSuperOf j fs (headers built.types fs) c g → g < c
+edge_low : (built : BuiltIns) (j : JavaNames) (fs : List File) → AreBases built.types → (c g : ℕ) → c < 19 → IsSuperOf j fs (headers built.types fs) c g → g < c
 edge_low built j fs bases c g lt (inr (x, (k, is, at), s, within, named)) = absurd (omega (arith, lt, is))
 edge_low built j fs bases c g lt (inl (low, info, at, args, (k, within, there))) =
     elim (get_either built.types _ c info at) [
@@ -49,7 +49,7 @@ edge_low built j fs bases c g lt (inl (low, info, at, args, (k, within, there)))
     at_place : {A : Type 0} (xs : List A) (k : ℕ) (x : A) → k < length xs → get_or xs k x ≡ x → slice_get xs k ≡ Some x
     at_place xs k x lt e = slice_get_read xs (length xs) k x refl lt (sym e)
 
-above_low : (built : BuiltIns) (j : JavaNames) (fs : List File) → AreBases built.types → (c g : ℕ) → c < 16 → IsAbove j fs (headers built.types fs) c g → g < c
+above_low : (built : BuiltIns) (j : JavaNames) (fs : List File) → AreBases built.types → (c g : ℕ) → c < 19 → IsAbove j fs (headers built.types fs) c g → g < c
 above_low built j fs bases c g lt (step _ _ e) = edge_low built j fs bases c g lt e
 above_low built j fs bases c g lt (further _ m _ e rest) =
     let low = edge_low built j fs bases c m lt e in

@@ -35,13 +35,13 @@ info_for at (y ∷ xs) c m n zero x e = let same : y ≡ x = cc e in (type_info 
 info_for at (y ∷ xs) c m n (suc k) x e = info_for at xs (c + 1) (m + length (methods_of (at y) c y.decl)) (n + length (fields_of (at y) c y.decl)) k x e
 
 -- a type of the world: a built-in one, or a declared one
-pub type_at : (built : BuiltIns) (j : JavaNames) (fs : List File) (c : ℕ) (info : TypeInfo) → length built.types ≡ 16 → slice_get (world_of built j fs).types c ≡ Some info
-    → (slice_get built.types c ≡ Some info) ⊎ ((k : ℕ) × (x : Declaration) × (c ≡ 16 + k) × (slice_get (declarations fs) k ≡ Some x) × IsInfoOf (place_among built j fs) x info)
-type_at built j fs c info sixteen e =
-    elim (get_either built.types (infos_from (place_among built j fs) 16 (length built.methods) (length built.fields) (declarations fs)) c info e) [
+pub type_at : (built : BuiltIns) (j : JavaNames) (fs : List File) (c : ℕ) (info : TypeInfo) → length built.types ≡ 19 → slice_get (world_of built j fs).types c ≡ Some info
+    → (slice_get built.types c ≡ Some info) ⊎ ((k : ℕ) × (x : Declaration) × (c ≡ 19 + k) × (slice_get (declarations fs) k ≡ Some x) × IsInfoOf (place_among built j fs) x info)
+type_at built j fs c info nineteen e =
+    elim (get_either built.types (infos_from (place_among built j fs) 19 (length built.methods) (length built.fields) (declarations fs)) c info e) [
       | inl h ↦ inl h
-      | inr h ↦ (let at = info_at (place_among built j fs) (declarations fs) 16 (length built.methods) (length built.fields) h.0 info h.2 in
-          inr (h.0, at.0, omega (arith, h.1, sixteen), at.1, at.2))
+      | inr h ↦ (let at = info_at (place_among built j fs) (declarations fs) 19 (length built.methods) (length built.fields) h.0 info h.2 in
+          inr (h.0, at.0, omega (arith, h.1, nineteen), at.1, at.2))
     ]
 
 pub same_params : (built : BuiltIns) (j : JavaNames) (fs : List File) → HaveParams (headers built.types fs) (world_of built j fs)
@@ -54,7 +54,7 @@ same_params built j fs c info e =
     declared : (k : ℕ) → c ≡ length built.types + k → (x : Declaration) × (slice_get (declarations fs) k ≡ Some x) × (header x ≡ info)
         → (own : TypeInfo) × (slice_get (world_of built j fs).types c ≡ Some own) × (own.params ≡ info.params)
     declared k is x =
-        let own = info_for (place_among built j fs) (declarations fs) 16 (length built.methods) (length built.fields) k x.0 x.1 in (
+        let own = info_for (place_among built j fs) (declarations fs) 19 (length built.methods) (length built.fields) k x.0 x.1 in (
           own.0,
           subst (λ n. slice_get (world_of built j fs).types n ≡ Some own.0) (sym is) (get_behind built.types _ k own.0 own.1),
           ap (λ (i : TypeInfo). i.params) own.2.3 ∙ ap (λ (i : TypeInfo). i.params) x.2,

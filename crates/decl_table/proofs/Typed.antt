@@ -153,7 +153,7 @@ parts_over w n x info same = record {
     over o t is = subst (IsTypeOver w n) is o.1
 
 -- the signatures of the built-in methods in the order of their table
-abbrev built_in_parts : (w : World) (n : ℕ) → ((c : ℕ) → c < 16 → IsKnown w c) → List (Parts w n)
+abbrev built_in_parts : (w : World) (n : ℕ) → ((c : ℕ) → c < 19 → IsKnown w c) → List (Parts w n)
 built_in_parts w n known =
     ([], None) ∷ ([], Some text) ∷ (object ∷ [], Some boolean) ∷ ([], Some int)
     ∷ ([], Some int) ∷ (int ∷ [], Some char) ∷ (int ∷ [], Some text)
@@ -189,11 +189,11 @@ built_in_parts w n known =
     throwables : List ℕ → List (Parts w n)
     throwables = flat_map (λ (k : ℕ). ([], None) ∷ (text ∷ [], None) ∷ [])
 
-built_in_signatures : (words : Words) (w : World) (n : ℕ) (known : (c : ℕ) → c < 16 → IsKnown w c)
+built_in_signatures : (words : Words) (w : World) (n : ℕ) (known : (c : ℕ) → c < 19 → IsKnown w c)
     → map (signature_in w n) (built_in_parts w n known) ≡ map signature_of (base.built_in_methods words)
 built_in_signatures words w n known = refl
 
-table_over : (words : Words) (w : World) (n : ℕ) → ((c : ℕ) → c < 16 → IsKnown w c) → (m : ℕ) (info : MethodInfo) → slice_get (base.built_in_methods words) m ≡ Some info
+table_over : (words : Words) (w : World) (n : ℕ) → ((c : ℕ) → c < 19 → IsKnown w c) → (m : ℕ) (info : MethodInfo) → slice_get (base.built_in_methods words) m ≡ Some info
     → AreOver w n info
 table_over words w n known m info e =
     let there : slice_get (map (signature_in w n) (built_in_parts w n known)) m ≡ Some (signature_of info) =
@@ -201,14 +201,14 @@ table_over words w n known m info e =
     let x = get_mapped (signature_in w n) (built_in_parts w n known) m (signature_of info) there in
     parts_over w n x.0 info x.2
 
-built_in_method : (words : Words) (w : World) → ((c : ℕ) → c < 16 → IsKnown w c) → (m : ℕ) (info : MethodInfo) → slice_get (base.built_in_methods words) m ≡ Some info
+built_in_method : (words : Words) (w : World) → ((c : ℕ) → c < 19 → IsKnown w c) → (m : ℕ) (info : MethodInfo) → slice_get (base.built_in_methods words) m ≡ Some info
     → IsKnown w info.owner × ((n : ℕ) → AreOver w n info)
 built_in_method words w known m info e =
-    let test : nat_lt info.owner 16 ≡ true = all_at (λ (i : MethodInfo). nat_lt i.owner 16) (base.built_in_methods words) m info refl e in
-    let low : info.owner < 16 = grind (arith, nat_tests, test) in
+    let test : nat_lt info.owner 19 ≡ true = all_at (λ (i : MethodInfo). nat_lt i.owner 19) (base.built_in_methods words) m info refl e in
+    let low : info.owner < 19 = grind (arith, nat_tests, test) in
     (known info.owner low, λ n. table_over words w n known m info e)
 
-built_in_field : (words : Words) (w : World) → ((c : ℕ) → c < 16 → IsKnown w c) → (m : ℕ) (info : FieldInfo) → slice_get (base.built_in_fields words) m ≡ Some info
+built_in_field : (words : Words) (w : World) → ((c : ℕ) → c < 19 → IsKnown w c) → (m : ℕ) (info : FieldInfo) → slice_get (base.built_in_fields words) m ≡ Some info
     → IsKnown w info.owner × ((n : ℕ) → IsTypeOver w n info.ty)
 built_in_field words w known zero info e =
     let owner : 2 ≡ info.owner = cc e in
@@ -221,16 +221,16 @@ built_in_field words w known (suc m) info e = absurd (none_there m info e)
 -- ---- all members
 
 module _ (b : BuiltIns) (j : JavaNames) (fs : List File) (w : World) (bases : AreBases b.types) (same : SameDeclared (world_of b j fs) w) where
-  known_base : (c : ℕ) → c < 16 → IsKnown w c
+  known_base : (c : ℕ) → c < 19 → IsKnown w c
   known_base c low =
       let at = get_there b.types c (omega (arith, low, bases.count)) in
       (at.0, ap (λ ts. slice_get ts c) same.0 ∙ get_front b.types _ c at.0 at.1)
 
-  known_declared : (k : ℕ) (x : Declaration) → slice_get (declarations fs) k ≡ Some x → (own : TypeInfo) × (slice_get w.types (16 + k) ≡ Some own) × (own.params ≡ length x.decl.params)
+  known_declared : (k : ℕ) (x : Declaration) → slice_get (declarations fs) k ≡ Some x → (own : TypeInfo) × (slice_get w.types (19 + k) ≡ Some own) × (own.params ≡ length x.decl.params)
   known_declared k x at =
-      let own = info_for (place_among b j fs) (declarations fs) 16 (length b.methods) (length b.fields) k x at in (
+      let own = info_for (place_among b j fs) (declarations fs) 19 (length b.methods) (length b.fields) k x at in (
         own.0,
-        ap (λ ts. slice_get ts (16 + k)) same.0 ∙ subst (λ n. slice_get (world_of b j fs).types (n + k) ≡ Some own.0) bases.count (get_behind b.types _ k own.0 own.1),
+        ap (λ ts. slice_get ts (19 + k)) same.0 ∙ subst (λ n. slice_get (world_of b j fs).types (n + k) ≡ Some own.0) bases.count (get_behind b.types _ k own.0 own.1),
         ap (λ (i : TypeInfo). i.params) own.2.3,
       )
 
@@ -243,22 +243,22 @@ module _ (b : BuiltIns) (j : JavaNames) (fs : List File) (w : World) (bases : Ar
   method_cases : (m : ℕ) (info : MethodInfo) → slice_get w.methods m ≡ Some info
       → (slice_get b.methods m ≡ Some info) ⊎ ((own : TypeInfo) × (slice_get w.types info.owner ≡ Some own) × AreOver w own.params info)
   method_cases m info e =
-      elim (get_either b.methods (methods_from (place_among b j fs) 16 (declarations fs)) m info (ap (λ ms. slice_get ms m) (sym same.1) ∙ e)) [
+      elim (get_either b.methods (methods_from (place_among b j fs) 19 (declarations fs)) m info (ap (λ ms. slice_get ms m) (sym same.1) ∙ e)) [
         | inl h ↦ inl h
-        | inr h ↦ (let x = method_from (place_among b j fs) 16 (declarations fs) h.0 info h.2 in
+        | inr h ↦ (let x = method_from (place_among b j fs) 19 (declarations fs) h.0 info h.2 in
             let own = known_declared x.0 x.1 x.2 in
-            let said = own_method (place_among b j fs x.1) w (length x.1.decl.params) (fits x.1) (16 + x.0) x.1.decl x.3 info x.4 in
+            let said = own_method (place_among b j fs x.1) w (length x.1.decl.params) (fits x.1) (19 + x.0) x.1.decl x.3 info x.4 in
             inr (own.0, ap (slice_get w.types) said.1 ∙ own.1, subst (λ n. AreOver w n info) (sym own.2) said.0))
       ]
 
   field_cases : (m : ℕ) (info : FieldInfo) → slice_get w.fields m ≡ Some info
       → (slice_get b.fields m ≡ Some info) ⊎ ((own : TypeInfo) × (slice_get w.types info.owner ≡ Some own) × IsTypeOver w own.params info.ty)
   field_cases m info e =
-      elim (get_either b.fields (fields_from (place_among b j fs) 16 (declarations fs)) m info (ap (λ ms. slice_get ms m) (sym same.2) ∙ e)) [
+      elim (get_either b.fields (fields_from (place_among b j fs) 19 (declarations fs)) m info (ap (λ ms. slice_get ms m) (sym same.2) ∙ e)) [
         | inl h ↦ inl h
-        | inr h ↦ (let x = field_from (place_among b j fs) 16 (declarations fs) h.0 info h.2 in
+        | inr h ↦ (let x = field_from (place_among b j fs) 19 (declarations fs) h.0 info h.2 in
             let own = known_declared x.0 x.1 x.2 in
-            let said = own_field (place_among b j fs x.1) w (length x.1.decl.params) (fits x.1) (16 + x.0) x.1.decl x.3 info x.4 in
+            let said = own_field (place_among b j fs x.1) w (length x.1.decl.params) (fits x.1) (19 + x.0) x.1.decl x.3 info x.4 in
             inr (own.0, ap (slice_get w.types) said.1 ∙ own.1, subst (λ n. IsTypeOver w n info.ty) (sym own.2) said.0))
       ]
 
@@ -280,7 +280,7 @@ typed_world words j fs w same = record {
     bases : AreBases b.types
     bases = built_in_bases words
 
-    known : (c : ℕ) → c < 16 → IsKnown w c
+    known : (c : ℕ) → c < 19 → IsKnown w c
     known = known_base b j fs w bases same
 
     method : (m : ℕ) (info : MethodInfo) (own : TypeInfo) → slice_get w.methods m ≡ Some info → slice_get w.types info.owner ≡ Some own → AreOver w own.params info

@@ -67,22 +67,22 @@ module _ (u : SourceUnit) where
   length-infos m [] = refl
   length-infos m (d ∷ ds) = let h = length-infos (m + (length d.members + 1)) ds in omega arith
 
-  length-types : length (world_of u).types ≡ 16 + length u.types
+  length-types : length (world_of u).types ≡ 19 + length u.types
   length-types = let h = length-append built_in_types (infos_of u 1 u.types) in let k = length-infos 1 u.types in omega arith
 
   -- ---- superclasses
 
-  named_low : (o : Option Name) (p : ℕ) → option_and_then (λ n. place_of n.0 (before_last u.types) 16) o ≡ Some p → p < 16 + length u.types
+  named_low : (o : Option Name) (p : ℕ) → option_and_then (λ n. place_of n.0 (before_last u.types) 19) o ≡ Some p → p < 19 + length u.types
   named_low None p e = absurd (cc e)
   named_low (Some n) p e =
-      let at = placed n.0 (before_last u.types) 16 p e in
+      let at = placed n.0 (before_last u.types) 19 p e in
       let within = slice_get_within (before_last u.types) at.at at.decl at.stands in
       omega (arith, at.is, within, length-before_last u.types)
 
-  super_low : (d : TypeDecl) (p : ℕ) → superclass_of u d ≡ Some p → p < 16 + length u.types
+  super_low : (d : TypeDecl) (p : ℕ) → superclass_of u d ≡ Some p → p < 19 + length u.types
   super_low d p e = go d.extends e
     where
-      go : (xs : List TypeExpr) → superclass_of u (record d { extends = xs }) ≡ Some p → p < 16 + length u.types
+      go : (xs : List TypeExpr) → superclass_of u (record d { extends = xs }) ≡ Some p → p < 19 + length u.types
       go [] e = let same : 0 ≡ p = cc e in omega arith
       go (x ∷ []) e = named_low (simple_name x) p e
       go (x ∷ y ∷ xs) e = absurd (cc e)
@@ -101,16 +101,16 @@ module _ (u : SourceUnit) where
         ]
     | inr h ↦
         let item = infos_item 1 u.types h.0 info h.2 in
-        let low = low_or_zero (superclass_of u item.0) (16 + length u.types) (omega arith) (super_low item.0) in
+        let low = low_or_zero (superclass_of u item.0) (19 + length u.types) (omega arith) (super_low item.0) in
         inr (unwrap_or (superclass_of u item.0) 0, ap (λ (i : TypeInfo). i.supers) item.2.1, omega (arith, low, length-types))
   ]
 
   -- ---- names of types
 
-  user_at : (j : ℕ) (d : TypeDecl) → slice_get u.types j ≡ Some d → (n : ℕ) × (slice_get (world_of u).types (16 + j) ≡ Some (type_info u n d))
-  user_at j d e = let at = infos_at 1 u.types j d e in (at.0, right built_in_types (infos_of u 1 u.types) j (16 + j) (type_info u at.0 d) refl at.1)
+  user_at : (j : ℕ) (d : TypeDecl) → slice_get u.types j ≡ Some d → (n : ℕ) × (slice_get (world_of u).types (19 + j) ≡ Some (type_info u n d))
+  user_at j d e = let at = infos_at 1 u.types j d e in (at.0, right built_in_types (infos_of u 1 u.types) j (19 + j) (type_info u at.0 d) refl at.1)
 
-  built_in_here : (c : ℕ) → c < 16 → (x : TypeInfo) × (slice_get (world_of u).types c ≡ Some x) × (x.name.0 ≡ c)
+  built_in_here : (c : ℕ) → c < 19 → (x : TypeInfo) × (slice_get (world_of u).types c ≡ Some x) × (x.name.0 ≡ c)
   built_in_here c low =
       let x = get_or built_in_types c (built_in_at 0 None) in
       let here = slice_get-get_or built_in_types c (built_in_at 0 None) low in
@@ -118,7 +118,7 @@ module _ (u : SourceUnit) where
 
   -- a type of the world is a built-in one, named by its number, or one of the file's
   type_cases : (c : ℕ) (x : TypeInfo) → slice_get (world_of u).types c ≡ Some x
-      → ((c < 16) × (x.name.0 ≡ c)) ⊎ ((j : ℕ) × (c ≡ 16 + j) × ((d : TypeDecl) × (slice_get u.types j ≡ Some d) × (x.name ≡ d.name)))
+      → ((c < 19) × (x.name.0 ≡ c)) ⊎ ((j : ℕ) × (c ≡ 19 + j) × ((d : TypeDecl) × (slice_get u.types j ≡ Some d) × (x.name ≡ d.name)))
   type_cases c x e = elim (get_either built_in_types (infos_of u 1 u.types) c x e) [
     | inl h ↦ inl (slice_get_within built_in_types c x h, ap (λ (i : TypeInfo). i.name.0) (in_table c x h).2)
     | inr h ↦ let item = infos_item 1 u.types h.0 x h.2 in inr (h.0, h.1, (item.0, item.1, ap (λ (i : TypeInfo). i.name) item.2.1))
@@ -130,20 +130,20 @@ module _ (u : SourceUnit) where
       same_name : (a b : Name) → a.0 ≡ b.0 → a ≡ b
       same_name a b e = let f : ℕ → Name = λ n. record { 0 = n } in ap f e
 
-      high : (k : ℕ) (d : TypeDecl) → slice_get u.types k ≡ Some d → 16 ≤ d.name.0
+      high : (k : ℕ) (d : TypeDecl) → slice_get u.types k ≡ Some d → 19 ≤ d.name.0
       high k d e = ⊎_elim
           (λ low.
           let mine = user_at k d e in
           let theirs = built_in_here d.name.0 low in
-          absurd (let same = h (16 + k) d.name.0 (type_info u mine.0 d) theirs.0 mine.1 theirs.1 (same_name d.name theirs.0.name (sym theirs.2)) in omega arith))
+          absurd (let same = h (19 + k) d.name.0 (type_info u mine.0 d) theirs.0 mine.1 theirs.1 (same_name d.name theirs.0.name (sym theirs.2)) in omega arith))
           (λ not_low. not_low)
-          (cases_lt d.name.0 16)
+          (cases_lt d.name.0 19)
 
       differ : (j k : ℕ) (a b : TypeDecl) → slice_get u.types j ≡ Some a → slice_get u.types k ≡ Some b → a.name.0 ≡ b.name.0 → j ≡ k
       differ j k a b e f same =
           let x = user_at j a e in
           let y = user_at k b f in
-          let at = h (16 + j) (16 + k) (type_info u x.0 a) (type_info u y.0 b) x.1 y.1 (same_name a.name b.name same) in
+          let at = h (19 + j) (19 + k) (type_info u x.0 a) (type_info u y.0 b) x.1 y.1 (same_name a.name b.name same) in
           omega arith
 
   pub from_own_names : (names : List (List ℕ)) → HaveOwnNames u.types → TypesDiffer names u (world_of u)
@@ -156,7 +156,7 @@ module _ (u : SourceUnit) where
       | inl y ↦ absurd (let high = own.high x.0 x.2.0 x.2.1 in let n = ap (λ (n : Name). n.0) (sym same ∙ x.2.2) in omega (arith, y.0, y.1, high, n))
       | inr y ↦
           let at = own.differ x.0 y.0 x.2.0 y.2.0 x.2.1 y.2.1 (ap (λ (n : Name). n.0) (sym x.2.2 ∙ same ∙ y.2.2)) in
-          x.1 ∙ ap (λ n. 16 + n) at ∙ sym y.1
+          x.1 ∙ ap (λ n. 19 + n) at ∙ sym y.1
     ]
   ]
 
@@ -171,7 +171,7 @@ module _ (u : SourceUnit) where
       omega (arith, h, all, own)
 
   pub few_methods : length u.types ≤ 4096 → written_methods u.types ≤ 65536 → length (world_of u).methods < 2 ^ 32
-  few_methods types methods = let h = length-methods 16 u.types in omega arith
+  few_methods types methods = let h = length-methods 19 u.types in omega arith
 
   owner_is : (c : ℕ) (m : Member) → (method_info u c m).owner ≡ c
   owner_is c (t.AMethod m) = refl
@@ -249,7 +249,7 @@ module _ (u : SourceUnit) where
 
   -- Object's constructor, or a method of the file
   world_method : (q : ℕ) (x : MethodInfo) → slice_get (world_of u).methods q ≡ Some x
-      → ((q ≡ 0) × (x.owner ≡ 0)) ⊎ ((i : ℕ) × (q ≡ 1 + i) × (slice_get (methods_of u 16 u.types) i ≡ Some x))
+      → ((q ≡ 0) × (x.owner ≡ 0)) ⊎ ((i : ℕ) × (q ≡ 1 + i) × (slice_get (methods_of u 19 u.types) i ≡ Some x))
   world_method zero x e = let same : object_constructor ≡ x = cc e in inl (refl, ap (λ (y : MethodInfo). y.owner) (sym same))
   world_method (suc i) x e = inr (i, omega arith, e)
 
@@ -259,24 +259,24 @@ module _ (u : SourceUnit) where
       owned : (m : ℕ) (info : MethodInfo) → slice_get (world_of u).methods m ≡ Some info → info.owner < length (world_of u).types
       owned m info e = elim (world_method m info e) [
         | inl h ↦ omega (arith, h.1, length-types)
-        | inr h ↦ let r = owner_range 16 u.types h.0 info h.2 in omega (arith, r.1, length-types)
+        | inr h ↦ let r = owner_range 19 u.types h.0 info h.2 in omega (arith, r.1, length-types)
       ]
 
-      built_in_lists : (c : ℕ) (info : TypeInfo) (m : ℕ) → c < 16 → ((c ≡ 0) × (info.methods ≡ 0 ∷ [])) ⊎ ((0 < c) × (info.methods ≡ [])) → Contains info.methods m ↔ IsOwned (world_of u) c m
+      built_in_lists : (c : ℕ) (info : TypeInfo) (m : ℕ) → c < 19 → ((c ≡ 0) × (info.methods ≡ 0 ∷ [])) ⊎ ((0 < c) × (info.methods ≡ [])) → Contains info.methods m ↔ IsOwned (world_of u) c m
       built_in_lists c info m low (inl h) = (
         λ has.
             let is = in_one m (subst (λ ns. Contains ns m) h.1 has) in
             (object_constructor, ap (slice_get (world_of u).methods) is, sym h.0),
         λ own. elim (world_method m own.0 own.1) [
           | inl first ↦ subst (λ ns. Contains ns m) (sym h.1) (subst (λ n. Contains (0 ∷ []) n) (sym first.0) (0, omega arith, refl))
-          | inr later ↦ absurd (let r = owner_range 16 u.types later.0 own.0 later.2 in omega (arith, r.0, own.2))
+          | inr later ↦ absurd (let r = owner_range 19 u.types later.0 own.0 later.2 in omega (arith, r.0, own.2))
         ],
       )
       built_in_lists c info m low (inr h) = (
         λ has. absurd (let none = subst (λ ns. Contains ns m) h.1 has in omega (arith, none.1)),
         λ own. elim (world_method m own.0 own.1) [
           | inl first ↦ absurd (omega (arith, first.1, own.2, h.0))
-          | inr later ↦ absurd (let r = owner_range 16 u.types later.0 own.0 later.2 in omega (arith, r.0, own.2))
+          | inr later ↦ absurd (let r = owner_range 19 u.types later.0 own.0 later.2 in omega (arith, r.0, own.2))
         ],
       )
 
@@ -290,12 +290,12 @@ module _ (u : SourceUnit) where
             ])
         | inr h ↦ (
           λ has.
-              let r = user_lists 16 1 u.types h.0 info h.2 m has in
-              (r.2.0, right (object_constructor ∷ []) (methods_of u 16 u.types) r.0 m r.2.0 (omega (arith, r.1)) r.2.1, omega (arith, r.2.2, h.1)),
+              let r = user_lists 19 1 u.types h.0 info h.2 m has in
+              (r.2.0, right (object_constructor ∷ []) (methods_of u 19 u.types) r.0 m r.2.0 (omega (arith, r.1)) r.2.1, omega (arith, r.2.2, h.1)),
           λ own. elim (world_method m own.0 own.1) [
             | inl first ↦ absurd (omega (arith, first.1, own.2, h.1))
             | inr later ↦
-                let r = user_owns 16 1 u.types h.0 info h.2 later.0 own.0 later.2 (omega (arith, own.2, h.1)) in
+                let r = user_owns 19 1 u.types h.0 info h.2 later.0 own.0 later.2 (omega (arith, own.2, h.1)) in
                 subst (λ n. Contains info.methods n) (sym later.1) r
           ],
         )

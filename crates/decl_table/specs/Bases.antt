@@ -9,5 +9,5 @@ abbrev pub IsBase : ℕ → TypeInfo → Type 0
 IsBase c info = (info.params ≡ 0) × ((k : ℕ) (d : JavaType) → slice_get info.supers k ≡ Some d → (p : ℕ) × (p < c) × (d ≡ ty.Class p []))
 
 pub record AreBases (types : List TypeInfo) : Type 0 where
-  pub count : length types ≡ 16
+  pub count : length types ≡ 19
   pub each : (c : ℕ) (info : TypeInfo) → slice_get types c ≡ Some info → IsBase c info

@@ -34,7 +34,7 @@ pub(crate) fn first_rule_breach(
     user: &[SourceUnit],
     lib: &[SourceUnit],
 ) -> Result<Option<Breach>, NoMemory>
-    ensures { (built : List spec_world.TypeInfo) → length built ≡ 16 → StandsFor meant.now java (files_of (map unit_plain user.now) (map unit_plain lib.now))
+    ensures { (built : List spec_world.TypeInfo) → length built ≡ 19 → StandsFor meant.now java (files_of (map unit_plain user.now) (map unit_plain lib.now))
         → types.now ≡ headers built (files_of (map unit_plain user.now) (map unit_plain lib.now))
         → IfOk result (λ r. IsFirst (RuleBreaches java (files_of (map unit_plain user.now) (map unit_plain lib.now)) types.now methods.now) r) }
 {

@@ -170,7 +170,7 @@ pub(crate) fn method_infos(
 ) -> Result<Items<MethodInfo>, NoMemory>
     requires numbers { Numbers classes.now (unit_plain unit.now) }
     requires types { length unit.now.types ≤ 4096 }
-    ensures { IfOk result (λ ms. ms ≡ world.object_constructor ∷ world.methods_of (unit_plain unit.now) 16 (map decl_plain unit.now.types)) }
+    ensures { IfOk result (λ ms. ms ≡ world.object_constructor ∷ world.methods_of (unit_plain unit.now) 19 (map decl_plain unit.now.types)) }
 {
     let object = default_constructor(alloc, 0, Name(0), &[Mod::Public])?;
     let mut methods = Items::one(alloc, object)?;

@@ -218,10 +218,10 @@ module _ (names : List (List ℕ)) (text : List ℕ) (u : SourceUnit) (w : World
       let low = slice_get_within names found.0.name known.0 known.1 in
       omega arith
 
-  pub few_types : length w.types ≤ 4112
+  pub few_types : length w.types ≤ 4115
   few_types =
       let known = given.declarations.few.0 in
-      let same : length w.types ≡ 16 + length u.types = ap (λ (w : World). length w.types) given.world ∙ types_are u in
+      let same : length w.types ≡ 19 + length u.types = ap (λ (w : World). length w.types) given.world ∙ types_are u in
       omega arith
 
   -- the name of a type is in the table
@@ -229,7 +229,7 @@ module _ (names : List (List ℕ)) (text : List ℕ) (u : SourceUnit) (w : World
   type_named c info e =
       elim (called_by u c info (subst (λ (w : World). slice_get w.types c ≡ Some info) given.world e)) [
         | inl low ↦
-            let last = given.table.built_in 15 _ refl in
+            let last = given.table.built_in 18 _ refl in
             let within = slice_get_within names 15 _ last in
             omega arith
         | inr h ↦

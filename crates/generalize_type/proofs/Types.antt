@@ -45,7 +45,7 @@ infos_are u m [] = refl
 infos_are u m (d ∷ ds) = ap suc (infos_are u (m + (length d.members + 1)) ds)
 
 -- how many types there are
-pub types_are : (u : SourceUnit) → length (world_of u).types ≡ 16 + length u.types
+pub types_are : (u : SourceUnit) → length (world_of u).types ≡ 19 + length u.types
 types_are u =
     let all = length-append built_in_types (infos_of u 1 u.types) in
     let own = infos_are u 1 u.types in
@@ -81,36 +81,36 @@ placed n (d ∷ ds) k c e = by_test (d.name.0 == n) refl e (placed n ds (k + 1) 
 pub step_called : (u : SourceUnit) (x : TypeExpr) (a : Name) (c : ℕ) → simple_name x ≡ Some a → step_type u x ≡ Some c → IsCalled u c a
 step_called u x a c simple e = by_test (a.0 == 0) refl (rw simple at e)
   where
-    by_test : (b : Bool) → (a.0 == 0) ≡ b → (if b then Some 0 else place_of a.0 (before_last u.types) 16) ≡ Some c → IsCalled u c a
+    by_test : (b : Bool) → (a.0 == 0) ≡ b → (if b then Some 0 else place_of a.0 (before_last u.types) 19) ≡ Some c → IsCalled u c a
     by_test true test e =
         let zero_is : a.0 ≡ 0 = grind (arith, nat_tests) in
         let same : c ≡ 0 = cc in
         record { info = built_in 0 [] [] (0 ∷ []); there = rw same refl; name = ap (λ n. record { 0 = n }) (sym zero_is) }
     by_test false test e =
-        let p = placed a.0 (before_last u.types) 16 c e in
+        let p = placed a.0 (before_last u.types) 19 c e in
         let info = info_at u 1 u.types p.place p.decl (before_kept u.types p.place p.decl p.there) in
         let at : slice_get (world_of u).types c ≡ Some info.0 = ap (λ k. slice_get (world_of u).types k) p.number ∙ append_at built_in_types (infos_of u 1 u.types) p.place ∙ info.1 in
         record { info = info.0; there = at; name = info.2 ∙ ap (λ n. record { 0 = n }) p.name }
 
 -- ---- names are in the table
 
-below_sixteen : (infos : List TypeInfo) (k : ℕ) (info : TypeInfo) → list_all (λ (i : TypeInfo). nat_lt i.name.0 16) infos ≡ true → slice_get infos k ≡ Some info → info.name.0 < 16
-below_sixteen [] k info all e = absurd (cc)
-below_sixteen (x ∷ infos) k info all e = by_test (nat_lt x.name.0 16) refl all k e (λ all k. below_sixteen infos k info all)
+below_nineteen : (infos : List TypeInfo) (k : ℕ) (info : TypeInfo) → list_all (λ (i : TypeInfo). nat_lt i.name.0 19) infos ≡ true → slice_get infos k ≡ Some info → info.name.0 < 19
+below_nineteen [] k info all e = absurd (cc)
+below_nineteen (x ∷ infos) k info all e = by_test (nat_lt x.name.0 19) refl all k e (λ all k. below_nineteen infos k info all)
   where
-    by_test : (b : Bool) → nat_lt x.name.0 16 ≡ b → (b && list_all (λ (i : TypeInfo). nat_lt i.name.0 16) infos) ≡ true → (k : ℕ) → slice_get (x ∷ infos) k ≡ Some info
-        → (list_all (λ (i : TypeInfo). nat_lt i.name.0 16) infos ≡ true → (k : ℕ) → slice_get infos k ≡ Some info → info.name.0 < 16) → info.name.0 < 16
+    by_test : (b : Bool) → nat_lt x.name.0 19 ≡ b → (b && list_all (λ (i : TypeInfo). nat_lt i.name.0 19) infos) ≡ true → (k : ℕ) → slice_get (x ∷ infos) k ≡ Some info
+        → (list_all (λ (i : TypeInfo). nat_lt i.name.0 19) infos ≡ true → (k : ℕ) → slice_get infos k ≡ Some info → info.name.0 < 19) → info.name.0 < 19
     by_test false test all k e below = absurd (cc)
     by_test true test all zero e below =
         let same : x ≡ info = cc in
-        let low : x.name.0 < 16 = grind (arith, nat_tests) in
-        subst (λ (i : TypeInfo). i.name.0 < 16) same low
+        let low : x.name.0 < 19 = grind (arith, nat_tests) in
+        subst (λ (i : TypeInfo). i.name.0 < 19) same low
     by_test true test all (suc k) e below = below all k e
 
 -- the name of each type is a built-in type's or a declared type's
 pub called_by : (u : SourceUnit) (c : ℕ) (info : TypeInfo) → slice_get (world_of u).types c ≡ Some info
-    → (info.name.0 < 16) ⊎ ((k : ℕ) × (d : TypeDecl) × (slice_get u.types k ≡ Some d) × (info.name ≡ d.name))
+    → (info.name.0 < 19) ⊎ ((k : ℕ) × (d : TypeDecl) × (slice_get u.types k ≡ Some d) × (info.name ≡ d.name))
 called_by u c info e = elim (in_either built_in_types (infos_of u 1 u.types) c info e) [
-  | inl h ↦ inl (below_sixteen built_in_types c info refl h)
+  | inl h ↦ inl (below_nineteen built_in_types c info refl h)
   | inr h ↦ let d = decl_at u 1 u.types h.0 info h.1 in inr (h.0, d.0, d.1, d.2)
 ]

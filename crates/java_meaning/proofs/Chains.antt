@@ -42,24 +42,24 @@ either true x = refl
 either false x = refl
 
 module _ (w : World) (c : ℕ) (r : Ran) where
-  pub built_in_constructs : (k : ℕ) → c < 16 → constructs k w c r ≡ Goes r
+  pub built_in_constructs : (k : ℕ) → c < 19 → constructs k w c r ≡ Goes r
   built_in_constructs zero low = refl
   built_in_constructs (suc k) low =
-      let e : nat_lt c 16 ≡ true = grind (arith, nat_tests) in
+      let e : nat_lt c 19 ≡ true = grind (arith, nat_tests) in
       rw e refl
 
   pub no_constructor : (k : ℕ) → constructor_of w c ≡ None → constructs k w c r ≡ Goes r
   no_constructor zero none = refl
-  no_constructor (suc k) none = rw none (either (nat_lt c 16) (Goes r))
+  no_constructor (suc k) none = rw none (either (nat_lt c 19) (Goes r))
 
-  module _ (n k m : ℕ) (size : n ≡ suc k) (declared : 16 ≤ c) (found : constructor_of w c ≡ Some m) (b : Bool) (s : Ran)
+  module _ (n k m : ℕ) (size : n ≡ suc k) (declared : 19 ≤ c) (found : constructor_of w c ≡ Some m) (b : Bool) (s : Ran)
       (entered : (go : Ran → Course) → enters m r go ≡ go_on (course b s) go) where
     abbrev above : Ran → Course
     above r = goes_with (superclass w c) r (λ p. constructs k w p r)
 
     step_of_chain : constructs n w c r ≡ go_on (course b s) above
     step_of_chain =
-        let e : nat_lt c 16 ≡ false = grind (arith, nat_tests) in
+        let e : nat_lt c 19 ≡ false = grind (arith, nat_tests) in
         ap (λ n. constructs n w c r) size
         ∙ ap (λ (b : Bool). if b then Goes r else (goes_with (constructor_of w c) r (λ m. enters m r above))) e
         ∙ ap (λ o. goes_with o r (λ m. enters m r above)) found

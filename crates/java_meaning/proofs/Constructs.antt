@@ -25,7 +25,7 @@ use Rattle.java_meaning.proofs.MethodBodies.{behind}
 pub record IsUser (u : SourceUnit) (c : ℕ) : Type 0 where
   pub place : ℕ
   pub decl : TypeDecl
-  pub is : c ≡ 16 + place
+  pub is : c ≡ 19 + place
   pub there : slice_get u.types place ≡ Some decl
 
 -- Object, or a class of the file
@@ -38,14 +38,14 @@ in_front (x ∷ []) k d e = absurd (cc e)
 in_front (x ∷ y ∷ ds) zero d e = e
 in_front (x ∷ y ∷ ds) (suc k) d e = in_front (y ∷ ds) k d e
 
-named_user : (u : SourceUnit) (n p : ℕ) → place_of n (before_last u.types) 16 ≡ Some p → IsUser u p
+named_user : (u : SourceUnit) (n p : ℕ) → place_of n (before_last u.types) 19 ≡ Some p → IsUser u p
 named_user u n p e =
-    let at = placed n (before_last u.types) 16 p e in
+    let at = placed n (before_last u.types) 19 p e in
     record { place = at.at; decl = at.decl; is = at.is; there = in_front u.types at.at at.decl at.stands }
 
 step_user : (u : SourceUnit) (x : TypeExpr) (c : ℕ) (b : Bool) → (if b then Some 0 else class_named u x) ≡ Some c → IsOwn u c
 step_user u x c true e = inl (sym (same_Some 0 c e))
-step_user u x c false e = option_and_then_some (λ n. place_of n.0 (before_last u.types) 16) (simple_name x) c e (λ n is h. inr (named_user u n.0 c h))
+step_user u x c false e = option_and_then_some (λ n. place_of n.0 (before_last u.types) 19) (simple_name x) c e (λ n is h. inr (named_user u n.0 c h))
 
 -- a step names Object or a class of the file
 pub step_own : (u : SourceUnit) (x : TypeExpr) (c : ℕ) → step_type u x ≡ Some c → IsOwn u c
@@ -55,13 +55,13 @@ step_own u x c e = option_and_then_some (λ n. if n.0 == 0 then Some 0 else clas
 super_own : (u : SourceUnit) (d : TypeDecl) → IsOwn u (unwrap_or (superclass_of u d) 0)
 super_own u d = go d.extends
   where
-    by_place : (n : ℕ) (o : Option ℕ) → place_of n (before_last u.types) 16 ≡ o → IsOwn u (unwrap_or o 0)
+    by_place : (n : ℕ) (o : Option ℕ) → place_of n (before_last u.types) 19 ≡ o → IsOwn u (unwrap_or o 0)
     by_place n None e = inl refl
     by_place n (Some p) e = inr (named_user u n p e)
 
-    by_name : (o : Option Name) → IsOwn u (unwrap_or (option_and_then (λ n. place_of n.0 (before_last u.types) 16) o) 0)
+    by_name : (o : Option Name) → IsOwn u (unwrap_or (option_and_then (λ n. place_of n.0 (before_last u.types) 19) o) 0)
     by_name None = inl refl
-    by_name (Some n) = by_place n.0 (place_of n.0 (before_last u.types) 16) refl
+    by_name (Some n) = by_place n.0 (place_of n.0 (before_last u.types) 19) refl
 
     go : (xs : List TypeExpr) → IsOwn u (unwrap_or (superclass_of u (record d { extends = xs })) 0)
     go [] = inl refl
@@ -177,5 +177,5 @@ module _ (u : SourceUnit) where
   made c (inl e) = subst (λ c. (m : ℕ) × (constructor_of (world_of u) c ≡ Some m) × IsConstructor (world_of u) c m) (sym e) (0, refl, (object_constructor, refl, refl, refl, refl))
   made c (inr i) =
       let at = info_of u c i in
-      let s = stands u u.types 16 i.place i.decl i.there in
+      let s = stands u u.types 19 i.place i.decl i.there in
       found (world_of u) (lists_methods u) c (suc s.0) (type_info u at.0 i.decl) at.1 (s.1, s.2, s.3 ∙ sym i.is, s.4, s.5)

@@ -39,7 +39,7 @@ enters_within n m r f le h = by_left r.left le
 
 pub constructs_within : (w : World) (k c n : ℕ) (r : Ran) → r.left ≤ n → Within n (constructs k w c r)
 constructs_within w zero c n r le = le
-constructs_within w (suc k) c n r le = by_class (nat_lt c 16) (λ p r le. constructs_within w k p n r le)
+constructs_within w (suc k) c n r le = by_class (nat_lt c 19) (λ p r le. constructs_within w k p n r le)
   where
     by_class : (b : Bool) → ((p : ℕ) (r : Ran) → r.left ≤ n → Within n (constructs k w p r))
         → Within n (if b then Goes r else goes_with (constructor_of w c) r (λ m. enters m r (λ r. goes_with (superclass w c) r (λ p. constructs k w p r))))
@@ -104,7 +104,7 @@ module _ (u : SourceUnit) (tree : IsClassTree (world_of u)) (none : NoConstructo
       let own = made u c (inr user) in
       let next = made u p above.own in
       let at = user.is in
-      let test : nat_lt c 16 ≡ false = grind (arith, nat_tests) in
+      let test : nat_lt c 19 ≡ false = grind (arith, nat_tests) in
       let one : own.0 ≡ m = one_constructor u none c own.0 m own.2 is in
       let up : super_constructor w c ≡ Some next.0 = ap (λ q. option_and_then (λ p. constructor_of w p) q) above.is ∙ next.1 in
       let course : constructs (suc k) w c r ≡ enters m r (λ r. constructs k w p r) =

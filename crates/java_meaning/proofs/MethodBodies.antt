@@ -123,7 +123,7 @@ module _ (names : List (List ℕ)) (text : List ℕ) (ts : List Tok) (a : Annota
   all_do u spells h =
       let same : u.types ≡ spells.types = ap (λ (u : SourceUnit). u.types) spells.tree in
       let are = subst (λ ds. AreTypes names text ts 1 ds 0 (length ts)) (sym same) spells.are in
-      more_do a object_constructor (methods_of u 16 u.types) BuiltIn (bodies_from 16 u.types) (nothing refl refl) (types_do u 16 u.types 1 0 (length ts) are h)
+      more_do a object_constructor (methods_of u 19 u.types) BuiltIn (bodies_from 19 u.types) (nothing refl refl) (types_do u 19 u.types 1 0 (length ts) are h)
 
 -- ---- main's body
 
@@ -161,6 +161,6 @@ module _ (names : List (List ℕ)) (text : List ℕ) (ts : List Tok) where
   main_body u spells =
       let same : u.types ≡ spells.types = ap (λ (u : SourceUnit). u.types) spells.tree in
       let are = subst (λ ds. AreTypes names text ts 1 ds 0 (length ts)) (sym same) spells.are in
-      let r = main_there u.types 1 0 (length ts) 1 16 are in
+      let r = main_there u.types 1 0 (length ts) 1 19 are in
       let number : main_number u ≡ suc r.place = r.number ∙ omega arith in
       ap (λ k. slice_get (bodies u) k) number ∙ r.there

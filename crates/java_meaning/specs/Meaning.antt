@@ -129,7 +129,7 @@ bodies_from c (d ∷ ds) = map member_body d.members ++ (Default c ∷ bodies_fr
 
 -- the bodies of a small file's methods, by number: Object's constructor, and then those of its types
 abbrev pub bodies : SourceUnit → List Body
-bodies u = BuiltIn ∷ bodies_from 16 u.types
+bodies u = BuiltIn ∷ bodies_from 19 u.types
 
 abbrev pub first_class : List JavaType → Option ℕ
 first_class [] = None

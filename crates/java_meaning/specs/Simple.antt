@@ -40,7 +40,7 @@ goes_with (Some a) r f = f a
 -- the default constructors of a class and of those above it, at most k of them; those of built-in classes take no step
 abbrev pub constructs : ℕ → World → ℕ → Ran → Course
 constructs zero w c r = Goes r
-constructs (suc k) w c r = if nat_lt c 16 then Goes r else goes_with (constructor_of w c) r (λ m. enters m r (λ r. goes_with (superclass w c) r (λ p. constructs k w p r)))
+constructs (suc k) w c r = if nat_lt c 19 then Goes r else goes_with (constructor_of w c) r (λ m. enters m r (λ r. goes_with (superclass w c) r (λ p. constructs k w p r)))
 
 -- the bytes that Prints print
 abbrev pub printed : Stmts → List ℕ

@@ -8,4 +8,3 @@ pub mod Sound
 pub mod Complete
 pub mod Within
 pub mod Answered
-pub mod Capped

@@ -1,4 +1,3 @@
 pub mod Parse
 pub mod Seen
 pub mod Nests
-pub mod Found

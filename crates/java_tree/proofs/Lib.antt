@@ -1,4 +1,2 @@
 pub mod Tables
-pub mod Founds
-pub mod Paths
 pub mod Views

@@ -1,6 +1,4 @@
 pub mod Names
 pub mod Plain
 pub mod View
-pub mod Children
-pub mod Found
 pub mod formers

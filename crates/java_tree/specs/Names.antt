@@ -38,6 +38,9 @@ built_in_names =
     ∷ codes "IndexOutOfBoundsException"
     ∷ codes "ArrayIndexOutOfBoundsException"
     ∷ codes "StringIndexOutOfBoundsException"
+    ∷ codes "LinkageError"
+    ∷ codes "ExceptionInInitializerError"
+    ∷ codes "NoClassDefFoundError"
     ∷ []
 
 -- the table of a program

@@ -2,14 +2,12 @@
 #![tactic(auto)]
 
 mod boxed;
-mod children;
 mod fault;
 mod items;
 mod names;
 pub mod tree;
 
 pub use boxed::Boxed;
-pub use children::{Item, child};
 pub use fault::{Broken, Family, Fault, NoMemory};
 pub use items::Items;
 pub use names::{BUILT_IN_TYPES, Names};

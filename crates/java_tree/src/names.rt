@@ -10,7 +10,7 @@ use std::alloc::Global;
 use std::marker::Model;
 
 /// How many types a program has without declaring them. Their simple names have the first numbers.
-pub const BUILT_IN_TYPES: u32 = 16;
+pub const BUILT_IN_TYPES: u32 = 19;
 
 /// The texts of names. Contracts see the list of their bytes, by number.
 #[derive(Drop)]
@@ -56,6 +56,9 @@ impl Names {
             "IndexOutOfBoundsException",
             "ArrayIndexOutOfBoundsException",
             "StringIndexOutOfBoundsException",
+            "LinkageError",
+            "ExceptionInInitializerError",
+            "NoClassDefFoundError",
         ])?;
         Ok(names)
     }

@@ -25,11 +25,11 @@ simple_name _ = None
 
 -- The number of the type of a name. The table of names begins with the built-in types in the order of their numbers.
 abbrev pub type_number : List TypeDecl → Name → Option ℕ
-type_number ds n = if nat_lt n.0 16 then Some n.0 else place_of n.0 ds 16
+type_number ds n = if nat_lt n.0 19 then Some n.0 else place_of n.0 ds 19
 
 -- the class of the file that a type expression names, main's class aside
 abbrev pub class_named : SourceUnit → TypeExpr → Option ℕ
-class_named u x = option_and_then (λ n. place_of n.0 (before_last u.types) 16) (simple_name x)
+class_named u x = option_and_then (λ n. place_of n.0 (before_last u.types) 19) (simple_name x)
 
 -- the number of the superclass (JLS 8.1.4)
 abbrev pub superclass_of : SourceUnit → TypeDecl → Option ℕ
@@ -121,7 +121,8 @@ built_in_types =
     ∷ built_in 3 (0 ∷ []) [] [] ∷ built_in 4 (0 ∷ []) [] [] ∷ built_in 5 (4 ∷ []) [] [] ∷ built_in 6 (4 ∷ []) [] []
     ∷ built_in 7 (5 ∷ []) [] [] ∷ built_in 8 (7 ∷ []) [] [] ∷ built_in 9 (7 ∷ []) [] [] ∷ built_in 10 (7 ∷ []) [] []
     ∷ built_in 11 (7 ∷ []) [] [] ∷ built_in 12 (7 ∷ []) [] [] ∷ built_in 13 (7 ∷ []) [] [] ∷ built_in 14 (13 ∷ []) [] []
-    ∷ built_in 15 (13 ∷ []) [] [] ∷ []
+    ∷ built_in 15 (13 ∷ []) [] []
+    ∷ built_in 16 (6 ∷ []) [] [] ∷ built_in 17 (16 ∷ []) [] [] ∷ built_in 18 (16 ∷ []) [] [] ∷ []
 
 abbrev pub object_constructor : MethodInfo
 object_constructor = default_constructor 0 (record { 0 = 0 }) (mods.Public ∷ [])
@@ -130,7 +131,7 @@ object_constructor = default_constructor 0 (record { 0 = 0 }) (mods.Public ∷ [
 abbrev pub world_of : SourceUnit → World
 world_of u = record {
   types = built_in_types ++ infos_of u 1 u.types;
-  methods = object_constructor ∷ methods_of u 16 u.types;
+  methods = object_constructor ∷ methods_of u 19 u.types;
   fields = [];
   walk = None;
   above = [];

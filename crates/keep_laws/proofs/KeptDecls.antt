@@ -223,19 +223,19 @@ module _ (c : Change) where
         same : (d : TypeDecl) → place_among b j new_files (new_at d) ≡ place_among b j old_files (old_at d)
         same d = ap (λ (ts : List TypeInfo). place_of j new_files ts (new_at d)) (headers_same b.types) ∙ place_same j (headers b.types old_files) d
 
-        types : infos_from (place_among b j new_files) 16 (length b.methods) (length b.fields) (declarations new_files)
-            ≡ infos_from (place_among b j old_files) 16 (length b.methods) (length b.fields) (declarations old_files)
+        types : infos_from (place_among b j new_files) 19 (length b.methods) (length b.fields) (declarations new_files)
+            ≡ infos_from (place_among b j old_files) 19 (length b.methods) (length b.fields) (declarations old_files)
         types =
-            ap (infos_from (place_among b j new_files) 16 (length b.methods) (length b.fields)) new_listed
-            ∙ infos_kept (place_among b j old_files) (place_among b j new_files) same ds 16 (length b.methods) (length b.fields) kept
-            ∙ sym (ap (infos_from (place_among b j old_files) 16 (length b.methods) (length b.fields)) old_listed)
+            ap (infos_from (place_among b j new_files) 19 (length b.methods) (length b.fields)) new_listed
+            ∙ infos_kept (place_among b j old_files) (place_among b j new_files) same ds 19 (length b.methods) (length b.fields) kept
+            ∙ sym (ap (infos_from (place_among b j old_files) 19 (length b.methods) (length b.fields)) old_listed)
 
-        methods : methods_from (place_among b j new_files) 16 (declarations new_files) ≡ methods_from (place_among b j old_files) 16 (declarations old_files)
+        methods : methods_from (place_among b j new_files) 19 (declarations new_files) ≡ methods_from (place_among b j old_files) 19 (declarations old_files)
         methods =
-            ap (methods_from (place_among b j new_files) 16) new_listed ∙ methods_kept (place_among b j old_files) (place_among b j new_files) same ds 16 kept
-            ∙ sym (ap (methods_from (place_among b j old_files) 16) old_listed)
+            ap (methods_from (place_among b j new_files) 19) new_listed ∙ methods_kept (place_among b j old_files) (place_among b j new_files) same ds 19 kept
+            ∙ sym (ap (methods_from (place_among b j old_files) 19) old_listed)
 
-        fields : fields_from (place_among b j new_files) 16 (declarations new_files) ≡ fields_from (place_among b j old_files) 16 (declarations old_files)
+        fields : fields_from (place_among b j new_files) 19 (declarations new_files) ≡ fields_from (place_among b j old_files) 19 (declarations old_files)
         fields =
-            ap (fields_from (place_among b j new_files) 16) new_listed ∙ fields_kept (place_among b j old_files) (place_among b j new_files) same ds 16 kept
-            ∙ sym (ap (fields_from (place_among b j old_files) 16) old_listed)
+            ap (fields_from (place_among b j new_files) 19) new_listed ∙ fields_kept (place_among b j old_files) (place_among b j new_files) same ds 19 kept
+            ∙ sym (ap (fields_from (place_among b j old_files) 19) old_listed)

@@ -40,17 +40,16 @@ module _ (c : Change) where
 
   plain_member : (names : List (List ℕ)) (d : TypeDecl) (m : Member) → IsKeptMember c m → (b : Breach) → MemberBreaks true names (decl c d) (member c m) b → MemberBreaks true names d m b
   plain_member names d (t.AField f) kept b h = absurd kept
-  plain_member names d (t.AMethod m) kept b (inl h) = absurd h
-  plain_member names d (t.AMethod m) kept b (inr (inl h)) = inr (inl h)
-  plain_member names d (t.AMethod m) kept b (inr (inr (rule, at, (method_is, (text, called, inl wait))))) = inr (inr (rule, at, (method_is, (text, called, inl wait))))
-  plain_member names d (t.AMethod m) kept b (inr (inr (rule, at, (method_is, (text, called, inr (none, among)))))) =
-      inr (inr (rule, at, (method_is, (text, called, inr (no_params m.params none, among)))))
+  plain_member names d (t.AMethod m) kept b (inl h) = inl h
+  plain_member names d (t.AMethod m) kept b (inr (rule, at, (method_is, (text, called, inl wait)))) = inr (rule, at, (method_is, (text, called, inl wait)))
+  plain_member names d (t.AMethod m) kept b (inr (rule, at, (method_is, (text, called, inr (none, among))))) =
+      inr (rule, at, (method_is, (text, called, inr (no_params m.params none, among))))
 
   member_kept : (m : Member) (ms : List Member) → AreKeptMembers c ms → Contains ms m → IsKeptMember c m
   member_kept m [] kept h = absurd (in_none m h)
   member_kept m (n ∷ ms) (one, rest) h = elim (in_cases n m ms h) [ inl e ↦ subst (IsKeptMember c) (sym e) one | inr u ↦ member_kept m ms rest u ]
 
-  -- S10, S16, S18 and S19
+  -- S10, S18 and S19
   pub plain_before : (names : List (List ℕ)) (d : TypeDecl) → IsKept c d → (b : Breach) → Either (TypeBreaks true (decl c d)) (SomeOf (decl c d).members (MemberBreaks true names (decl c d))) b
       → Either (TypeBreaks true d) (SomeOf d.members (MemberBreaks true names d)) b
   plain_before names d kept b (inl h) = inl h

@@ -25,8 +25,8 @@ module _ (c : Change) where
   before_same (d ∷ []) = refl
   before_same (d ∷ e ∷ ds) = ap (λ (xs : List TypeDecl). decl c d ∷ xs) (before_same (e ∷ ds))
 
-  pub named_same : (u : SourceUnit) (n : ℕ) → place_of n (before_last (generalized c u).types) 16 ≡ place_of n (before_last u.types) 16
-  named_same u n = rw (before_same u.types) (place_same n (before_last u.types) 16)
+  pub named_same : (u : SourceUnit) (n : ℕ) → place_of n (before_last (generalized c u).types) 19 ≡ place_of n (before_last u.types) 19
+  named_same u n = rw (before_same u.types) (place_same n (before_last u.types) 19)
 
   module _ (names : List (List ℕ)) (text : List ℕ) (ts : List Tok) (u : SourceUnit) where
     -- ---- types that begin elsewhere
@@ -46,7 +46,7 @@ module _ (c : Change) where
 
     pub param_kept : (p : Param) (n i d : ℕ) → p.ty ≡ type_at names text ts n i d → (from_at ts i == c.from) ≡ false
         → param_type (generalized c u) (param c p) ≡ param_type u p
-    param_kept p n i d is other = rw (is, type_kept n i d other, place_same (reads.name_at ts i) u.types 16) refl
+    param_kept p n i d is other = rw (is, type_kept n i d other, place_same (reads.name_at ts i) u.types 19) refl
 
     -- ---- the type that begins at the change
 

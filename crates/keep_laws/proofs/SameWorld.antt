@@ -88,4 +88,4 @@ module _ (names : List (List ℕ)) (text : List ℕ) (ts : List Tok) (c : Change
   methods_same (d ∷ ds) k (one, rest) = rw (one.methods k, methods_same ds (k + 1) rest) refl
 
   pub world_same : AreAlike u.types → world_of (generalized c u) ≡ world_of u
-  world_same alike = rw (infos_same u.types 1 alike, methods_same u.types 16 alike) refl
+  world_same alike = rw (infos_same u.types 1 alike, methods_same u.types 19 alike) refl

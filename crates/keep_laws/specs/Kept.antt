@@ -20,7 +20,7 @@ one_file words u = record { words = words; user = u ∷ []; lib = [] }
 
 -- the number in the table of names is the simple name of a type that main may name
 abbrev pub IsNameOf : SourceUnit → ℕ → ℕ → Type 0
-IsNameOf u n target = (if n == 0 then Some 0 else place_of n (before_last u.types) 16) ≡ Some target
+IsNameOf u n target = (if n == 0 then Some 0 else place_of n (before_last u.types) 19) ≡ Some target
 
 -- the use is of the method that a call of this name chooses on a class
 abbrev pub UsesChosen : World → ℕ → Name → Option Use → Type 0

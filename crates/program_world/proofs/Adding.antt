@@ -97,7 +97,7 @@ all_added at (x ∷ xs) w =
     (append_assoc w.fields own_fields (fields_from at (length (w.types ++ info ∷ [])) xs) ∙ ap (λ k. w.fields ++ (own_fields ++ fields_from at k xs)) next)
 
 -- the world of a program
-pub world_made : (built : BuiltIns) (j : JavaNames) (fs : List File) (types : List TypeInfo) (w all : World) → length built.types ≡ 16 → types ≡ headers built.types fs
+pub world_made : (built : BuiltIns) (j : JavaNames) (fs : List File) (types : List TypeInfo) (w all : World) → length built.types ≡ 19 → types ≡ headers built.types fs
     → w ≡ record { types = built.types; methods = built.methods; fields = built.fields; walk = None; above = [] }
     → all ≡ with_types (place_of j fs types) (declarations fs) w → all ≡ world_of built j fs
 world_made built j fs types w all size heads begun added =
@@ -106,9 +106,9 @@ world_made built j fs types w all size heads begun added =
     let xs = declarations fs in
     added ∙ ap (λ hs. with_types (place_of j fs hs) xs w) heads ∙ ap (with_types at xs) begun ∙ all_added at xs first
     ∙ same_world
-    (built.types ++ infos_from at (length built.types) (length built.methods) (length built.fields) xs) (built.types ++ infos_from at 16 (length built.methods) (length built.fields) xs)
-    (built.methods ++ methods_from at (length built.types) xs) (built.methods ++ methods_from at 16 xs)
-    (built.fields ++ fields_from at (length built.types) xs) (built.fields ++ fields_from at 16 xs)
+    (built.types ++ infos_from at (length built.types) (length built.methods) (length built.fields) xs) (built.types ++ infos_from at 19 (length built.methods) (length built.fields) xs)
+    (built.methods ++ methods_from at (length built.types) xs) (built.methods ++ methods_from at 19 xs)
+    (built.fields ++ fields_from at (length built.types) xs) (built.fields ++ fields_from at 19 xs)
     None []
     (ap (λ c. built.types ++ infos_from at c (length built.methods) (length built.fields) xs) size)
     (ap (λ c. built.methods ++ methods_from at c xs) size)

@@ -167,12 +167,12 @@ fields_from at c (x ∷ xs) = fields_of (at x) c x.decl ++ fields_from at (c + 1
 abbrev pub place_among : BuiltIns → JavaNames → List File → Declaration → Place
 place_among built j fs = place_of j fs (headers built.types fs)
 
--- The world of a program: the built-in types, of which there are 16, and then the declared ones. Its walk and its table of the order are filled later.
+-- The world of a program: the built-in types, of which there are 19, and then the declared ones. Its walk and its table of the order are filled later.
 abbrev pub world_of : BuiltIns → JavaNames → List File → World
 world_of built j fs = record {
-  types = built.types ++ infos_from (place_among built j fs) 16 (length built.methods) (length built.fields) (declarations fs);
-  methods = built.methods ++ methods_from (place_among built j fs) 16 (declarations fs);
-  fields = built.fields ++ fields_from (place_among built j fs) 16 (declarations fs);
+  types = built.types ++ infos_from (place_among built j fs) 19 (length built.methods) (length built.fields) (declarations fs);
+  methods = built.methods ++ methods_from (place_among built j fs) 19 (declarations fs);
+  fields = built.fields ++ fields_from (place_among built j fs) 19 (declarations fs);
   walk = None;
   above = [];
 }

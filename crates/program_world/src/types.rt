@@ -31,7 +31,7 @@ pub fn declared_world(
     user: &[SourceUnit],
     lib: &[SourceUnit],
 ) -> Result<World, NoMemory>
-    ensures { (j : JavaNames) → length built.types ≡ 16 → StandsFor names.now j (files_of (map unit_plain user.now) (map unit_plain lib.now))
+    ensures { (j : JavaNames) → length built.types ≡ 19 → StandsFor names.now j (files_of (map unit_plain user.now) (map unit_plain lib.now))
         → types.now ≡ headers built.types (files_of (map unit_plain user.now) (map unit_plain lib.now))
         → IfOk result (λ world. world ≡ world_of built j (files_of (map unit_plain user.now) (map unit_plain lib.now))) }
 {

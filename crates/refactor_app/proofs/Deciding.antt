@@ -51,7 +51,7 @@ pub no_program : (q : Request) (text : List ℕ) → IsNoProgram text → Refuse
 no_program q text none = verdict.n2 (λ p small c is. none p small)
 
 -- what a name of a type has the number of is in the world
-named_low : (u : t.SourceUnit) (n c : ℕ) → (if n == 0 then Some 0 else place_of n (before_last u.types) 16) ≡ Some c → c < length (world_of u).types
+named_low : (u : t.SourceUnit) (n c : ℕ) → (if n == 0 then Some 0 else place_of n (before_last u.types) 19) ≡ Some c → c < length (world_of u).types
 named_low u n c is =
     let written : t.TypeExpr = t.Written (record { id = 0; span = record { from = 0; to = 0 } }) (head.Path (record { 0 = n } ∷ [])) (record { from = 0; to = 0 }) t.NoTypes 0 in
     let called = step_called u written (record { 0 = n }) c refl is in

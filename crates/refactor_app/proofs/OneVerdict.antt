@@ -40,7 +40,7 @@ module _ (text : List ℕ) (p : Program) (small : IsSmall text p) where
   one_target : (word : List ℕ) (c d : ℕ) → IsTypeNamed p word c → IsTypeNamed p word d → c ≡ d
   one_target word c d a b =
       let n : a.0 ≡ b.0 = distinct a.0 b.0 word a.1 b.1 in
-      let other = subst (λ (n : ℕ). (if n == 0 then Some 0 else place_of n (before_last p.unit.types) 16) ≡ Some d) (sym n) b.2 in
+      let other = subst (λ (n : ℕ). (if n == 0 then Some 0 else place_of n (before_last p.unit.types) 19) ≡ Some d) (sym n) b.2 in
       let same : Some c ≡ Some d = sym a.2 ∙ other in
       cc
 

@@ -80,9 +80,9 @@ trees_names names first count (x ∷ xs) (u ∷ us) new low (ts, allowed, is, mo
     let here = interned_long x ts names in
     omega (arith, rest, here)
 
-pub names_few : (texts : List (List ℕ)) (units : List SourceUnit) (names : List (List ℕ)) → AreTrees built_in_names 0 0 texts units names → length names ≤ 1048592
-names_few texts units names h = let most = trees_names built_in_names 0 0 texts units names (omega arith) h in let sixteen : length built_in_names ≡ 16 = refl in omega (arith, most, sixteen)
+pub names_few : (texts : List (List ℕ)) (units : List SourceUnit) (names : List (List ℕ)) → AreTrees built_in_names 0 0 texts units names → length names ≤ 1048595
+names_few texts units names h = let most = trees_names built_in_names 0 0 texts units names (omega arith) h in let nineteen : length built_in_names ≡ 19 = refl in omega (arith, most, nineteen)
 
 -- the built-in names come first
-pub built_in_first : (names : List (List ℕ)) → IsTable names → 16 ≤ length names
-built_in_first names table = let e = table.built_in 15 _ refl in let h = there names 15 _ e in omega (arith, h.0)
+pub built_in_first : (names : List (List ℕ)) → IsTable names → 19 ≤ length names
+built_in_first names table = let e = table.built_in 18 _ refl in let h = there names 18 _ e in omega (arith, h.0)

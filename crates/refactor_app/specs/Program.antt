@@ -47,7 +47,7 @@ pub record IsSmall (text : List ℕ) (p : Program) : Type 0 where
 
 -- the number of the type that a word names: Object, or a class of the file that is not main's
 abbrev pub IsTypeNamed : Program → List ℕ → ℕ → Type 0
-IsTypeNamed p word c = (n : ℕ) × (slice_get p.names n ≡ Some word) × ((if n == 0 then Some 0 else place_of n (before_last p.unit.types) 16) ≡ Some c)
+IsTypeNamed p word c = (n : ℕ) × (slice_get p.names n ≡ Some word) × ((if n == 0 then Some 0 else place_of n (before_last p.unit.types) 19) ≡ Some c)
 
 -- the program's annotation: the type of each expression of main and what it uses
 abbrev pub IsAnnotated : Program → Type 0

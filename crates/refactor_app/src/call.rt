@@ -107,7 +107,7 @@ fn on_declared<F: Files, K: Sink>(
     requires held { AreHeld (F.holds files.old) 0 (inputs (request_of q.now)) texts.now }
     requires table { IsTable table.now }
     requires within { count ≤ length table.now }
-    requires built_in { 16 ≤ count }
+    requires built_in { 19 ≤ count }
     requires trees { AreTrees built_in_names 0 0 texts.now (map unit_plain units) (take count table.now) }
     requires declared { AreDeclared (length (request_of q.now).users) (take count table.now) (map unit_plain units) }
     ensures { let a : Moment = record { holds = F.holds files.old; misses = F.misses files.old; read_faults = F.read_faults files.old; write_faults = F.write_faults files.old; put = K.written out.old; faults = K.faults out.old } in

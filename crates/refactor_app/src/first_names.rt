@@ -11,7 +11,7 @@ use std::alloc::Global;
 pub fn first_of(alloc: Global, names: &Names, count: u32) -> Result<Names, NoMemory>
     requires table { IsTable names.now }
     requires within { count ≤ length names.now }
-    requires built_in { 16 ≤ count }
+    requires built_in { 19 ≤ count }
     ensures { IfOk result (λ t. t ≡ take count names.now) }
 {
     let mut first = Names::new(alloc)?;

@@ -187,7 +187,7 @@ module _ (g g' : Program) (tree : IsClassTree g.world) (apart : AreApart g.world
   last_same default s = refl
 
   all_bodies : ListAlike (bodies g.unit) (bodies g'.unit)
-  all_bodies = more built_in (types_alike 16 g.unit.types g'.unit.types is.types)
+  all_bodies = more built_in (types_alike 19 g.unit.types g'.unit.types is.types)
 
   -- ---- calls, and the run
 

@@ -105,7 +105,7 @@ pub record Parsing (texts : List (List ℕ)) (i first count : ℕ) (names : List
   pub table : IsTable names
   pub few : count ≤ most_tokens
   pub nodes : first ≤ count + i
-  pub known : length names ≤ 16 + count
+  pub known : length names ≤ 19 + count
 
 pub parsing_none : (texts : List (List ℕ)) → Parsing texts 0 0 0 built_in_names []
 parsing_none texts = record {

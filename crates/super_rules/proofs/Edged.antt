@@ -113,13 +113,13 @@ names_none p x m reads not g names = not g (reads ∙ ap (head_named p) (sym (he
 -- ---- the row of a type
 
 module _ (j : JavaNames) (fs : List File) (types : List TypeInfo) where
-  not_declared : (c : ℕ) (x : Declaration) → c < 16 → Declares fs c x → ⊥
+  not_declared : (c : ℕ) (x : Declaration) → c < 19 → Declares fs c x → ⊥
   not_declared c x lt h = let e = h.1 in omega (arith, lt, e)
 
-  not_built : (c g : ℕ) → 16 ≤ c → IsBuiltInSuper types c g → ⊥
+  not_built : (c g : ℕ) → 19 ≤ c → IsBuiltInSuper types c g → ⊥
   not_built c g le h = let lt = h.0 in omega (arith, le, lt)
 
-  pub built_led : (classes : Bool) (c : ℕ) (info : TypeInfo) (row : List ℕ) → c < 16 → slice_get types c ≡ Some info → IsRow row (λ g. (args : List JavaType) × Contains info.supers (ty.Class g args))
+  pub built_led : (classes : Bool) (c : ℕ) (info : TypeInfo) (row : List ℕ) → c < 19 → slice_get types c ≡ Some info → IsRow row (λ g. (args : List JavaType) × Contains info.supers (ty.Class g args))
       → IsRow row (IsLed j fs types classes c)
   built_led classes c info row lt is h g = by classes
     where
@@ -134,7 +134,7 @@ module _ (j : JavaNames) (fs : List File) (types : List TypeInfo) where
       by true = (λ has. inl (own has), λ e. elim e [ inl b ↦ back b | inr w ↦ absurd (not_declared c w.0 lt w.1) ])
 
   -- a number that no declaration has
-  pub none_led : (classes : Bool) (c : ℕ) (row : List ℕ) → row ≡ [] → 16 ≤ c → length (declarations fs) ≤ c - 16 → IsRow row (IsLed j fs types classes c)
+  pub none_led : (classes : Bool) (c : ℕ) (row : List ℕ) → row ≡ [] → 19 ≤ c → length (declarations fs) ≤ c - 19 → IsRow row (IsLed j fs types classes c)
   none_led classes c row empty le past g = by classes
     where
       beyond : (x : Declaration) → Declares fs c x → ⊥
@@ -156,15 +156,15 @@ module _ (j : JavaNames) (fs : List File) (types : List TypeInfo) where
       subst (λ (d : TypeDecl). IsRow row (λ g. (d.interface ≡ false) × SaysOneOf p types d.extends g)) is.decl
       (subst (λ (ts : List TypeInfo). IsRow row (λ g. (e.decl.now.interface ≡ false) × SaysOneOf p ts (decl_plain e.decl.now).extends g)) is.types_are h)
 
-  module _ (c : ℕ) (x : Declaration) (e : Entry) (le : 16 ≤ c) (at : slice_get (declarations fs) (c - 16) ≡ Some x) (is : IsEntry j fs types e x) where
+  module _ (c : ℕ) (x : Declaration) (e : Entry) (le : 19 ≤ c) (at : slice_get (declarations fs) (c - 19) ≡ Some x) (is : IsEntry j fs types e x) where
     the_one : (y : Declaration) → Declares fs c y → y ≡ x
     the_one y h =
-        let k : h.0 ≡ c - 16 = (let s = h.1 in omega (arith, s)) in
+        let k : h.0 ≡ c - 19 = (let s = h.1 in omega (arith, s)) in
         let same : Some y ≡ Some x = sym h.2 ∙ ap (slice_get (declarations fs)) k ∙ at in
         cc same
 
     own : Declares fs c x
-    own = (c - 16, omega (arith, le), at)
+    own = (c - 19, omega (arith, le), at)
 
     pub written_led : (row : List ℕ) → IsRow row (NamesOneOf (place_of j fs types x) (written_supers x.decl)) → IsRow row (IsLed j fs types false c)
     written_led row h g = (

@@ -90,9 +90,9 @@ stand_behind user us gs k g at =
     ap (slice_get (fs ++ gs)) (let size = count user us in let same : length us + k ≡ length fs + k = omega (arith, size) in same) ∙ at_end fs gs k ∙ at
 
 -- all declarations have numbers of types
-pub has_entries : (j : JavaNames) (fs : List File) (types built : List TypeInfo) (es given : List Entry) → given ≡ es → length built ≡ 16 → types ≡ headers built fs
+pub has_entries : (j : JavaNames) (fs : List File) (types built : List TypeInfo) (es given : List Entry) → given ≡ es → length built ≡ 19 → types ≡ headers built fs
     → AreEntries j fs types es (declarations fs) → HasEntries j fs types given
-has_entries j fs types built es given same sixteen are h =
+has_entries j fs types built es given same nineteen are h =
     let size = ap length are ∙ length-append built (map header (declarations fs)) in
     let count = length-map (declarations fs) header in
-    record { entries = subst (λ es. AreEntries j fs types es (declarations fs)) (sym same) h; few = omega (arith, size, count, sixteen) }
+    record { entries = subst (λ es. AreEntries j fs types es (declarations fs)) (sym same) h; few = omega (arith, size, count, nineteen) }

@@ -16,7 +16,7 @@ use Rattle.super_rules.specs.Rules.{Declares, IsBuiltInSuper, IsSuperOf, IsAbove
 use Rattle.super_rules.specs.Rules as rule
 use Rattle.super_rules.specs.Looks.{IsLed, IsDrawn, Draws, AreFlags}
 
-module _ (j : JavaNames) (fs : List File) (types : List TypeInfo) (few : 16 + length (declarations fs) ≤ length types) where
+module _ (j : JavaNames) (fs : List File) (types : List TypeInfo) (few : 19 + length (declarations fs) ≤ length types) where
   declared_within : (c : ℕ) (x : Declaration) → Declares fs c x → c < length types
   declared_within c x h = let lt = slice_get_within (declarations fs) h.0 x h.2 in let e = h.1 in omega (arith, lt, e, few)
 

@@ -43,7 +43,7 @@ below_more {A} n xs F x a m r at so_far one = adds_alike (Either (Below n xs F) 
 -- ---- S11
 
 abbrev pub GenericAt : JavaNames → List File → List TypeInfo → ℕ → Declaration → Breaches
-GenericAt j fs types k x = At 11 x.decl.node ((x.file.user ≡ true) × ((g : ℕ) × WritesSuper j fs types (16 + k) g × IsGenericAbove j fs types g))
+GenericAt j fs types k x = At 11 x.decl.node ((x.file.user ≡ true) × ((g : ℕ) × WritesSuper j fs types (19 + k) g × IsGenericAbove j fs types g))
 
 pub generic_first : (j : JavaNames) (fs : List File) (types : List TypeInfo) (n : ℕ) (r : Option Breach) → length (declarations fs) ≤ n → Adds (Below n (declarations fs) (GenericAt j fs types)) None r
     → IsFirst (GenericSuperBreaches j fs types) r
@@ -51,7 +51,7 @@ generic_first j fs types n r all adds =
     first_from_none (GenericSuperBreaches j fs types) r (adds_alike (Below n (declarations fs) (GenericAt j fs types)) (GenericSuperBreaches j fs types) None r (λ b. (to b, from b)) adds)
   where
     to : (b : Breach) → Below n (declarations fs) (GenericAt j fs types) b → GenericSuperBreaches j fs types b
-    to b (k, x, lt, at, h) = (16 + k, x, (k, refl, at), h)
+    to b (k, x, lt, at, h) = (19 + k, x, (k, refl, at), h)
 
     from : (b : Breach) → GenericSuperBreaches j fs types b → Below n (declarations fs) (GenericAt j fs types) b
     from b (c, x, (k, is, at), h) =
@@ -62,24 +62,24 @@ generic_first j fs types n r all adds =
 module _ (j : JavaNames) (fs : List File) (types : List TypeInfo) (k : ℕ) (e : Entry) (x : Declaration) (at : slice_get (declarations fs) k ≡ Some x) (is : IsEntry j fs types e x) where
   generic_decides : (flags : List Bool) (holds : Bool) → AreFlags flags (IsGenericAbove j fs types)
       → IsTrue holds ↔ ((e.user ≡ true) × ((g : ℕ) × NamesOneOf (place_of j fs types x) (written_supers (decl_plain e.decl.now)) g × (slice_get flags g ≡ Some true)))
-      → Decides holds ((x.file.user ≡ true) × ((g : ℕ) × WritesSuper j fs types (16 + k) g × IsGenericAbove j fs types g))
+      → Decides holds ((x.file.user ≡ true) × ((g : ℕ) × WritesSuper j fs types (19 + k) g × IsGenericAbove j fs types g))
   generic_decides flags holds set says = (to, from)
     where
       p : Place
       p = place_of j fs types x
 
-      to : holds ≡ true → (x.file.user ≡ true) × ((g : ℕ) × WritesSuper j fs types (16 + k) g × IsGenericAbove j fs types g)
+      to : holds ≡ true → (x.file.user ≡ true) × ((g : ℕ) × WritesSuper j fs types (19 + k) g × IsGenericAbove j fs types g)
       to holds_is =
           let found = says.0 holds_is in
           let s : NamesOneOf p (written_supers x.decl) found.1.0 = subst (λ (d : TypeDecl). NamesOneOf p (written_supers d) found.1.0) is.decl found.1.1 in
           (sym is.user ∙ found.0, (found.1.0, (x, (k, refl, at), s.0, s.1, s.2), (set found.1.0).0 found.1.2))
 
-      the_one : (y : Declaration) → Declares fs (16 + k) y → y ≡ x
+      the_one : (y : Declaration) → Declares fs (19 + k) y → y ≡ x
       the_one y h =
           let number : h.0 ≡ k = (let e = h.1 in omega (arith, e)) in
           cc (h.2, ap (slice_get (declarations fs)) number, at)
 
-      from : (x.file.user ≡ true) × ((g : ℕ) × WritesSuper j fs types (16 + k) g × IsGenericAbove j fs types g) → holds ≡ true
+      from : (x.file.user ≡ true) × ((g : ℕ) × WritesSuper j fs types (19 + k) g × IsGenericAbove j fs types g) → holds ≡ true
       from (user, (g, (y, declares, s, has, names), above)) =
           let there : NamesOneOf p (written_supers x.decl) g =
           subst (λ (y : Declaration). NamesOneOf (place_of j fs types y) (written_supers y.decl) g) (the_one y declares) (s, has, names) in
@@ -89,7 +89,7 @@ module _ (j : JavaNames) (fs : List File) (types : List TypeInfo) (k : ℕ) (e :
       → IsTrue holds ↔ ((e.user ≡ true) × ((g : ℕ) × NamesOneOf (place_of j fs types x) (written_supers (decl_plain e.decl.now)) g × (slice_get flags g ≡ Some true)))
       → r ≡ noted m 11 e.decl.now.node holds → Adds (Below k (declarations fs) (GenericAt j fs types)) None m → Adds (Below (k + 1) (declarations fs) (GenericAt j fs types)) None r
   generic_next flags holds m r set says noted_is so_far =
-      let P = (x.file.user ≡ true) × ((g : ℕ) × WritesSuper j fs types (16 + k) g × IsGenericAbove j fs types g) in
+      let P = (x.file.user ≡ true) × ((g : ℕ) × WritesSuper j fs types (19 + k) g × IsGenericAbove j fs types g) in
       let node : e.decl.now.node ≡ x.decl.node = ap (λ (d : TypeDecl). d.node) is.decl in
       below_more k (declarations fs) (GenericAt j fs types) x None m r at so_far
       (subst (Adds (At 11 x.decl.node P) m) (sym (noted_is ∙ ap (λ n. noted m 11 n holds) node)) (adds_noted 11 x.decl.node P holds m (generic_decides flags holds set says)))
@@ -97,7 +97,7 @@ module _ (j : JavaNames) (fs : List File) (types : List TypeInfo) (k : ℕ) (e :
 -- ---- DR2, DR3, DR12
 
 abbrev pub SuperAt : JavaNames → List File → List TypeInfo → ℕ → Declaration → Breaches
-SuperAt j fs types k x = TypeBreaches j fs types (16 + k) x
+SuperAt j fs types k x = TypeBreaches j fs types (19 + k) x
 
 -- the rules at one declaration
 pub type_adds : (j : JavaNames) (fs : List File) (types : List TypeInfo) (c : ℕ) (e : Entry) (x : Declaration) (itself bare throwable : Bool) (a m n r : Option Breach) → IsEntry j fs types e x
@@ -129,8 +129,8 @@ super_first j fs types n r all adds =
   where
     to : (b : Breach) → Below n (declarations fs) (SuperAt j fs types) b → SuperBreaches j fs types b
     to b (k, x, lt, at, inl throws) = inl (x, at_contains (declarations fs) k x at, throws)
-    to b (k, x, lt, at, inr (inl itself)) = inr (inl (16 + k, x, (k, refl, at), itself))
-    to b (k, x, lt, at, inr (inr generic)) = inr (inr (16 + k, x, (k, refl, at), generic))
+    to b (k, x, lt, at, inr (inl itself)) = inr (inl (19 + k, x, (k, refl, at), itself))
+    to b (k, x, lt, at, inr (inr generic)) = inr (inr (19 + k, x, (k, refl, at), generic))
 
     from : (b : Breach) → SuperBreaches j fs types b → Below n (declarations fs) (SuperAt j fs types) b
     from b (inl (x, has, throws)) =

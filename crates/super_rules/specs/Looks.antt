@@ -44,7 +44,7 @@ pub record AreEntries (j : JavaNames) (fs : List File) (types : List TypeInfo) (
 -- those of all declarations, each of which is known by its number
 pub record HasEntries (j : JavaNames) (fs : List File) (types : List TypeInfo) (es : List Entry) : Type 0 where
   pub entries : AreEntries j fs types es (declarations fs)
-  pub few : 16 + length (declarations fs) ≤ length types
+  pub few : 19 + length (declarations fs) ≤ length types
 
 -- ---- graphs
 

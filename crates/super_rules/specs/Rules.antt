@@ -13,13 +13,13 @@ use Rattle.written_types.specs.Types.{type_of}
 use Rattle.written_types.specs.Breaks.{node_of, head_of, NamesVariable, NamesType}
 use Rattle.type_headers.specs.Declared.{Declaration, declarations, place_of, written_supers}
 
--- the declaration of the type of this number; built-in types have the numbers below 16
+-- the declaration of the type of this number; built-in types have the numbers below 19
 abbrev pub Declares : List File → ℕ → Declaration → Type 0
-Declares fs c x = (k : ℕ) × (c ≡ 16 + k) × (slice_get (declarations fs) k ≡ Some x)
+Declares fs c x = (k : ℕ) × (c ≡ 19 + k) × (slice_get (declarations fs) k ≡ Some x)
 
 -- a supertype of a built-in type
 abbrev pub IsBuiltInSuper : List TypeInfo → ℕ → ℕ → Type 0
-IsBuiltInSuper types c g = (c < 16) × (info : TypeInfo) × (slice_get types c ≡ Some info) × (args : List JavaType) × Contains info.supers (ty.Class g args)
+IsBuiltInSuper types c g = (c < 19) × (info : TypeInfo) × (slice_get types c ≡ Some info) × (args : List JavaType) × Contains info.supers (ty.Class g args)
 
 -- ---- what a type depends on
 

@@ -23,7 +23,7 @@ pub(crate) struct Entry<'a> {
     pub(crate) user: bool,
 }
 
-/// The declarations of the user files, and then those of the library files; the k-th has the number 16 + k. `NoMemory` also where there are more than 2^32 files.
+/// The declarations of the user files, and then those of the library files; the k-th has the number 19 + k. `NoMemory` also where there are more than 2^32 files.
 pub(crate) fn entries_of<'a>(
     alloc: Global,
     names: &'a TypeNames,

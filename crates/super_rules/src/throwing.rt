@@ -31,7 +31,7 @@ pub fn first_super_breach(
     user: &[SourceUnit],
     lib: &[SourceUnit],
 ) -> Result<Option<Breach>, NoMemory>
-    ensures { (java : JavaNames) (built : List TypeInfo) → length built ≡ 16 → StandsFor names.now java (files_of (map unit_plain user.now) (map unit_plain lib.now))
+    ensures { (java : JavaNames) (built : List TypeInfo) → length built ≡ 19 → StandsFor names.now java (files_of (map unit_plain user.now) (map unit_plain lib.now))
         → types.now ≡ headers built (files_of (map unit_plain user.now) (map unit_plain lib.now))
         → IfOk result (IsFirst (SuperBreaches java (files_of (map unit_plain user.now) (map unit_plain lib.now)) types.now)) }
 {

@@ -17,7 +17,7 @@ abbrev pub declarations_from : ℕ → List File → List Declaration
 declarations_from i [] = []
 declarations_from i (f ∷ fs) = map (λ d. record { file = f; number = i; decl = d }) f.unit.types ++ declarations_from (i + 1) fs
 
--- all of them in order; the k-th declares the type of number 16 + k
+-- all of them in order; the k-th declares the type of number 19 + k
 abbrev pub declarations : List File → List Declaration
 declarations = declarations_from 0
 

@@ -64,8 +64,8 @@ pub file_home : (j : JavaNames) (fs : List File) (k : ℕ) (f : File) → slice_
 file_home j fs k f at = slice_get-map (λ (f : File). f.unit.«package») fs k ∙ ap (option_map (λ (f : File). f.unit.«package»)) at
 
 type_home : (j : JavaNames) (fs : List File) (k : ℕ) (t : KnownType) → slice_get (types_of j fs) k ≡ Some t → (i : ℕ) × (slice_get (packages j fs) i ≡ Some t.«package»)
-type_home j fs k t at = elim (get_split (map (built_in_type j) (numbers_below 16)) (flat_map types_in fs) k t at) [
-  | inl built ↦ let n = get_mapped (built_in_type j) (numbers_below 16) k t built in by n.0 (n.0 == 3) refl n.2
+type_home j fs k t at = elim (get_split (map (built_in_type j) (numbers_below 19)) (flat_map types_in fs) k t at) [
+  | inl built ↦ let n = get_mapped (built_in_type j) (numbers_below 19) k t built in by n.0 (n.0 == 3) refl n.2
   | inr later ↦
       let in_file = get_flat types_in fs later.0 t later.1 in
       let d = get_mapped (declared_type in_file.1) in_file.1.unit.types in_file.2 t in_file.4 in

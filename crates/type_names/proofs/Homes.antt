@@ -47,7 +47,7 @@ types_more ps user (v ∷ us) u =
     ∙ ap (λ x. x ++ map (brief ps) (types_in (record { unit = unit_plain u; user = user }))) (sym (map-append (brief ps) (types_in file) (flat_map types_in (files_in user (map unit_plain us)))))
 
 pub types_made : (j : JavaNames) (ps : List (List Name)) (us ls : List declared.SourceUnit) (p q r : List code.Known)
-    → p ≡ map (brief ps) (map (built_in_type j) (numbers_below 16)) → q ≡ p ++ map (brief ps) (flat_map types_in (files_in true (map unit_plain us)))
+    → p ≡ map (brief ps) (map (built_in_type j) (numbers_below 19)) → q ≡ p ++ map (brief ps) (flat_map types_in (files_in true (map unit_plain us)))
     → r ≡ q ++ map (brief ps) (flat_map types_in (files_in false (map unit_plain ls))) → r ≡ map (brief ps) (types_of j (files_of (map unit_plain us) (map unit_plain ls)))
 types_made j ps us ls p q r ep eq er =
     er ∙ ap (λ x. x ++ map (brief ps) (flat_map types_in lib)) (eq ∙ ap (λ x. x ++ map (brief ps) (flat_map types_in user)) ep)
@@ -62,4 +62,4 @@ types_made j ps us ls p q r ep eq er =
     lib = files_in false (map unit_plain ls)
 
     built_in : List KnownType
-    built_in = map (built_in_type j) (numbers_below 16)
+    built_in = map (built_in_type j) (numbers_below 19)

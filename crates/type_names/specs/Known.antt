@@ -75,4 +75,4 @@ types_in f = map (declared_type f) f.unit.types
 
 -- all types; the number of a type is its place
 abbrev pub types_of : JavaNames → List File → List KnownType
-types_of j fs = map (built_in_type j) (numbers_below 16) ++ flat_map types_in fs
+types_of j fs = map (built_in_type j) (numbers_below 19) ++ flat_map types_in fs

@@ -40,7 +40,7 @@ BreaksTypeName j fs t b = (n : ℕ) × (t.node ≡ Some n) × IsAt n 22 b × Beg
 
 -- S22: a file whose package begins with the simple name of a built-in type
 abbrev pub BreaksPackageName : File → Breaches
-BreaksPackageName f b = IsAt f.unit.node.id 22 b × ((x : Name) × (rest : List Name) × (f.unit.«package» ≡ x ∷ rest) × (x.0 < 16))
+BreaksPackageName f b = IsAt f.unit.node.id 22 b × ((x : Name) × (rest : List Name) × (f.unit.«package» ≡ x ∷ rest) × (x.0 < 19))
 
 -- S23: a declared type with the name of an earlier type; the built-in ones come first
 abbrev pub BreaksOwnName : List KnownType → Breaches

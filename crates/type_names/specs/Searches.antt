@@ -27,7 +27,7 @@ IsApart us path = (first : SourceUnit) × (slice_get us 0 ≡ Some first) × (pa
 
 -- the package begins with the simple name of a built-in type
 abbrev pub BeginsBuiltIn : List Name → Type 0
-BeginsBuiltIn path = (x : Name) × (rest : List Name) × (path ≡ x ∷ rest) × (x.0 < 16)
+BeginsBuiltIn path = (x : Name) × (rest : List Name) × (path ≡ x ∷ rest) × (x.0 < 19)
 
 -- what a user file breaks, and what a library file does
 abbrev pub UserBreaches : JavaNames → List SourceUnit → List SourceUnit → SourceUnit → Breaches

@@ -105,7 +105,7 @@ fn built_in_types(
     java: JavaNames,
     packages: &Packages,
 ) -> Result<Vec<Known>, NoMemory>
-    ensures { IfOk result (λ ts. ts.items ≡ map (brief packages.now) (map (spec.built_in_type java) (spec.numbers_below 16))) }
+    ensures { IfOk result (λ ts. ts.items ≡ map (brief packages.now) (map (spec.built_in_type java) (spec.numbers_below 19))) }
 {
     let lang = packages.number_of(&[java.java, java.lang]).unwrap_or(0);
     let io = packages.number_of(&[java.java, java.io]).unwrap_or(0);

@@ -5,5 +5,5 @@ use Rattle.decl_table.proofs.methods.method_infos.Given as goal
 
 abbrev pub invariant-loop-at : goal.invariant-loop-at
 invariant-loop-at l =
-    l.methods ++ world.methods_of (unit_plain l.unit) (16 + l.at) (drop l.at (map decl_plain l.unit.types))
-    ≡ world.object_constructor ∷ world.methods_of (unit_plain l.unit) 16 (map decl_plain l.unit.types)
+    l.methods ++ world.methods_of (unit_plain l.unit) (19 + l.at) (drop l.at (map decl_plain l.unit.types))
+    ≡ world.object_constructor ∷ world.methods_of (unit_plain l.unit) 19 (map decl_plain l.unit.types)

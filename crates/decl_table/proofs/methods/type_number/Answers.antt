@@ -18,8 +18,8 @@ returns-then-main-name c =
     let all = named_last (map decl_plain c.args.unit.now.types) c.args.name last.0 (decl_plain c.in_ok-main.main.now) c.if-name-lt-BUILT_IN_TYPES.false none
     (rw (← types) last.1) (rw (← types) last.2) in
     let test : eqb c.in_ok-main.main.now.name.0 c.args.name.0 ≡ true = grind (arith, nat_tests) in
-    let number : 16 + c.len.result - 1 ≡ 16 + last.0 = (let size = last.1 in let same = length-map c.as_slice.result.now decl_plain in let whole = ap length types in omega (arith, size, same, whole, c.len.ensures)) in
-    sym (all ∙ ap (λ b. cond b (Some (16 + last.0)) None) test ∙ ap Some (sym number))
+    let number : 19 + c.len.result - 1 ≡ 19 + last.0 = (let size = last.1 in let same = length-map c.as_slice.result.now decl_plain in let whole = ap length types in omega (arith, size, same, whole, c.len.ensures)) in
+    sym (all ∙ ap (λ b. cond b (Some (19 + last.0)) None) test ∙ ap Some (sym number))
 
 pub returns-else-main-name : goal.returns-else-main-name
 returns-else-main-name c =
@@ -29,4 +29,4 @@ returns-else-main-name c =
     let all = named_last (map decl_plain c.args.unit.now.types) c.args.name last.0 (decl_plain c.in_ok-main.main.now) c.if-name-lt-BUILT_IN_TYPES.false none
     (rw (← types) last.1) (rw (← types) last.2) in
     let test : eqb c.in_ok-main.main.now.name.0 c.args.name.0 ≡ false = grind (arith, nat_tests) in
-    sym (all ∙ ap (λ b. cond b (Some (16 + last.0)) None) test)
+    sym (all ∙ ap (λ b. cond b (Some (19 + last.0)) None) test)

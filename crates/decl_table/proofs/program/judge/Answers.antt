@@ -30,7 +30,7 @@ judge_declarations-requires-clause-few c =
     let is : c.as_slice-types.result.now ≡ headers c.in_ok-built.built.types fs = search rules in
     let early = early_none (ScopeSet c.args.names.now c.java_names-java.result p.user p.lib c.as_slice-types.result.now) (type_count p) (method_count p) c.in_ok-broken.field-0 c.in_default.not-Some
     (c.in_ok-broken.ensures c.in_ok-built.built.types bases c.in_ok-meant.ensures is) in
-    let low : length c.as_slice-types.result.now ≤ 4112 = subst (λ ts. length ts ≤ 4112) (sym is) (count_types c.in_ok-built.built.types p.user p.lib bases.count early.1) in
+    let low : length c.as_slice-types.result.now ≤ 4115 = subst (λ ts. length ts ≤ 4115) (sym is) (count_types c.in_ok-built.built.types p.user p.lib bases.count early.1) in
     omega (arith, low)
 
 pub returns : goal.returns

@@ -15,7 +15,7 @@ use Rattle.generalize_type.proofs.small.generalize_small.Goals as goal
 
 pub local_begins-requires-clause-types : goal.local_begins-requires-clause-types
 local_begins-requires-clause-types c =
-    let few : length c.args.w.now.types ≤ 4112 = few_types c.args.names.now c.args.text.now _ c.args.w.now c.requires.small in
+    let few : length c.args.w.now.types ≤ 4115 = few_types c.args.names.now c.args.text.now _ c.args.w.now c.requires.small in
     omega (arith, few)
 
 pub returns-in_default-clause-v : goal.returns-in_default-clause-v

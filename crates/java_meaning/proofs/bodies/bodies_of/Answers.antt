@@ -17,4 +17,4 @@ returns c =
     let f = λ (xs : Bor (List Stmt)). stmts_plain xs.now in
     let types = c.args.unit.now.types in
     all_added types c.loop-class.class-index (map f c.loop-class.bodies.items) (t.Last ∷ steps_from (map decl_plain types)) (rw (← c.as_slice-class-items.ensures) c.loop-class-test.false) c.loop-class.invariant
-    ∙ ap (λ l. t.Last ∷ l) (sym (steps_of_bodies 16 (map decl_plain types)))
+    ∙ ap (λ l. t.Last ∷ l) (sym (steps_of_bodies 19 (map decl_plain types)))

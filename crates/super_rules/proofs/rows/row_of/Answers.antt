@@ -19,7 +19,7 @@ returns-then-classes c = λ java fs types has at.
     let n = c.args.number in
     let e = c.in-Some.entry.now in
     let found = c.in-Some.ensures.lookup in
-    let there = has.each (n - 16) e (slice_get_read c.args.entries.now (length c.args.entries.now) (n - 16) e refl found.3.0 found.1) in
+    let there = has.each (n - 19) e (slice_get_read c.args.entries.now (length c.args.entries.now) (n - 19) e refl found.3.0 found.1) in
     let is = there.2 in
     IfOk-weaker c.class_row.result _ _ (λ row h.
     subst (λ b. IsRow row (IsLed java fs types b n)) (sym c.if-classes.true) (by.class_led java fs types n there.0 e c.if-number-first.false there.1 is row
@@ -30,7 +30,7 @@ returns-else-classes c = λ java fs types has at.
     let n = c.args.number in
     let e = c.in-Some.entry.now in
     let found = c.in-Some.ensures.lookup in
-    let there = has.each (n - 16) e (slice_get_read c.args.entries.now (length c.args.entries.now) (n - 16) e refl found.3.0 found.1) in
+    let there = has.each (n - 19) e (slice_get_read c.args.entries.now (length c.args.entries.now) (n - 19) e refl found.3.0 found.1) in
     let is = there.2 in
     IfOk-weaker c.written_row.result _ _ (λ row h.
     subst (λ b. IsRow row (IsLed java fs types b n)) (sym c.if-classes.false) (by.written_led java fs types n there.0 e c.if-number-first.false there.1 is row

@@ -7,6 +7,6 @@ use Rattle.decl_table.proofs.classes.ClassTable.of.Given as goal
 
 abbrev pub invariant-loop-at : goal.invariant-loop-at
 invariant-loop-at l = record {
-  found : (q : ℕ) → get nat_eq l.numbers q ≡ place_of q (take l.at (map decl_plain l.types)) 16;
+  found : (q : ℕ) → get nat_eq l.numbers q ≡ place_of q (take l.at (map decl_plain l.types)) 19;
   own : HaveOwnNames (take l.at (map decl_plain l.types));
 }
