@@ -6,5 +6,4 @@ pub mod Declared
 pub mod Lists
 pub mod Sound
 pub mod Complete
-pub mod Within
 pub mod Answered
