@@ -6,9 +6,6 @@ mod below_two;
 mod class_rows;
 mod climb;
 mod joins;
-pub mod laws;
-mod members;
-mod order;
 mod order_table;
 mod paths;
 mod rows;
@@ -23,8 +20,6 @@ pub mod world;
 
 pub use access::{Declared, sees};
 pub use below_two::first_below_two;
-pub use members::{MethodTable, find_method, member_names};
-pub use order::{is_below, is_sub_class, superclass};
 pub use order_table::{Ordered, with_order};
 pub use sequence::supers_first;
 pub use subtypes::{fits, is_sub, is_unchecked, super_as};
