@@ -1,0 +1,33 @@
+-- The choice of a method or constructor (JLS 15.12.2): by subtyping alone, an unchecked conversion counts.
+use Rattle.std.specs.Prelude.{Bool, true, false, ◌&&◌, List, [], ◌∷◌, Option, Some, None, filter, if◌then◌else◌}
+use Rattle.std.specs.List.{list_all}
+use Rattle.class_world.specs.declared.world.JavaType.{JavaType}
+use Rattle.type_facts.specs.Facts.{Facts}
+use Rattle.method_choice.specs.declared.choice.Candidate.{Candidate}
+
+-- whether R holds of the items at each place, and both are equally long
+abbrev pub pairwise : (JavaType → JavaType → Bool) → List JavaType → List JavaType → Bool
+pairwise R [] [] = true
+pairwise R [] (y ∷ ys) = false
+pairwise R (x ∷ xs) [] = false
+pairwise R (x ∷ xs) (y ∷ ys) = R x y && pairwise R xs ys
+
+-- parameters of these types take the arguments (15.12.2.2)
+abbrev pub applies : Facts → (args : List JavaType) → Candidate → Bool
+applies f args c = pairwise f.fits args c.params
+
+-- each parameter type of the first is a subtype of the second's (15.12.2.5)
+abbrev pub is_as_specific : Facts → Candidate → Candidate → Bool
+is_as_specific f c d = pairwise f.sub c.params d.params
+
+abbrev pub lone : List Candidate → Option Candidate
+lone [] = None
+lone (c ∷ []) = Some c
+lone (c ∷ d ∷ cs) = None
+
+abbrev pub most_specific : Facts → List Candidate → Option Candidate
+most_specific f cs = lone (filter (λ c. list_all (is_as_specific f c) cs) cs)
+
+-- the one applicable candidate that is as specific as each other one
+abbrev pub chosen : Facts → (args : List JavaType) → List Candidate → Option Candidate
+chosen f args cs = most_specific f (filter (applies f args) cs)
