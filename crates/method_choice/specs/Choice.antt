@@ -1,5 +1,5 @@
 -- The choice of a method or constructor (JLS 15.12.2): by subtyping alone, an unchecked conversion counts.
-use Rattle.std.specs.Prelude.{Bool, true, false, ◌&&◌, List, [], ◌∷◌, Option, Some, None, filter, if◌then◌else◌}
+use Rattle.std.specs.Prelude.{Bool, true, false, not, ◌&&◌, ◌||◌, List, [], ◌∷◌, Option, Some, None, filter}
 use Rattle.std.specs.List.{list_all}
 use Rattle.class_world.specs.declared.world.JavaType.{JavaType}
 use Rattle.type_facts.specs.Facts.{Facts}
@@ -25,9 +25,10 @@ lone [] = None
 lone (c ∷ []) = Some c
 lone (c ∷ d ∷ cs) = None
 
-abbrev pub most_specific : Facts → List Candidate → Option Candidate
-most_specific f cs = lone (filter (λ c. list_all (is_as_specific f c) cs) cs)
+-- it takes the arguments, and is as specific as each other candidate that does
+abbrev pub is_best : Facts → (args : List JavaType) → List Candidate → Candidate → Bool
+is_best f args cs c = applies f args c && list_all (λ d. not (applies f args d) || is_as_specific f c d) cs
 
--- the one applicable candidate that is as specific as each other one
+-- the one candidate that is
 abbrev pub chosen : Facts → (args : List JavaType) → List Candidate → Option Candidate
-chosen f args cs = most_specific f (filter (applies f args) cs)
+chosen f args cs = lone (filter (is_best f args cs) cs)

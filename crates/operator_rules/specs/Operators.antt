@@ -25,9 +25,9 @@ use Rattle.type_facts.specs.Facts.{Facts}
 use Rattle.type_facts.specs.Scopes.{own_type}
 use Rattle.type_facts.specs.declared.scope.Place.{Place}
 use Rattle.type_facts.specs.declared.scope.LocalVar.{LocalVar}
-use Rattle.expr_rules.specs.declared.uses.Use.{Use}
-use Rattle.expr_rules.specs.declared.uses.Use.TheVariants as use_
-use Rattle.expr_rules.specs.Writtens.{type_said}
+use Rattle.operator_rules.specs.declared.uses.Use.{Use}
+use Rattle.operator_rules.specs.declared.uses.Use.TheVariants as use_
+use Rattle.operator_rules.specs.Writtens.{type_said}
 
 -- ---- prefix operators and steps: T42 to T44, T60
 

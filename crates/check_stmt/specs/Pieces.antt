@@ -20,9 +20,9 @@ use Rattle.type_facts.specs.Scopes.{find_local, own_type}
 use Rattle.type_facts.specs.declared.scope.LocalVar.{LocalVar}
 use Rattle.type_facts.specs.declared.scope.Place.{Place}
 use Rattle.written_types.specs.Types.{arrays}
-use Rattle.expr_rules.specs.Targets.{superclass, constructor}
-use Rattle.expr_rules.specs.Writtens.{type_said}
-use Rattle.stmt_rules.specs.declared.jumps.Jumps.{Jumps}
+use Rattle.member_uses.specs.Targets.{superclass, constructor}
+use Rattle.operator_rules.specs.Writtens.{type_said}
+use Rattle.check_stmt.specs.declared.jumps.Jumps.{Jumps}
 
 -- ---- locals
 

@@ -6,8 +6,8 @@ use Rattle.java_tree.specs.declared.tree.Node.{Node}
 use Rattle.java_tree.specs.declared.tree.UnOp.TheVariants as un
 use Rattle.java_tree.specs.Plain as t
 use Rattle.checked.specs.Checked.{Checked, Fine, Broken, and_then, under, also}
-use Rattle.expr_rules.specs.Constants.{is_in_range, wrapped}
-use Rattle.stmt_rules.specs.declared.labels.Label.{Label}
+use Rattle.operator_rules.specs.Constants.{is_in_range, wrapped}
+use Rattle.check_stmt.specs.declared.labels.Label.{Label}
 
 -- the value of an int literal, under a minus or not
 abbrev pub int_value : (minus : Bool) → ℕ → ℤ

@@ -13,15 +13,15 @@ use Rattle.type_facts.specs.Facts.{Facts}
 use Rattle.type_facts.specs.declared.scope.LocalVar.{LocalVar}
 use Rattle.type_facts.specs.declared.scope.Place.{Place}
 use Rattle.written_types.specs.Types.{arrays}
-use Rattle.expr_rules.specs.declared.uses.Use.{Use}
-use Rattle.expr_rules.specs.declared.uses.Use.TheVariants as use_
-use Rattle.expr_rules.specs.Writtens.{type_said, written}
-use Rattle.expr_rules.specs.Typed.{typed, typeds, initial}
-use Rattle.stmt_rules.specs.declared.jumps.Jumps.{Jumps}
-use Rattle.stmt_rules.specs.declared.labels.Label.{Label}
-use Rattle.stmt_rules.specs.Labels.{labels, are_labels, value_of}
-use Rattle.stmt_rules.specs.Pieces as piece
-use Rattle.stmt_rules.specs.Pieces.{declared, is_char}
+use Rattle.operator_rules.specs.declared.uses.Use.{Use}
+use Rattle.operator_rules.specs.declared.uses.Use.TheVariants as use_
+use Rattle.operator_rules.specs.Writtens.{type_said, written}
+use Rattle.check_expr.specs.Typed.{typed, typeds, initial}
+use Rattle.check_stmt.specs.declared.jumps.Jumps.{Jumps}
+use Rattle.check_stmt.specs.declared.labels.Label.{Label}
+use Rattle.check_stmt.specs.Labels.{labels, are_labels, value_of}
+use Rattle.check_stmt.specs.Pieces as piece
+use Rattle.check_stmt.specs.Pieces.{declared, is_char}
 
 module _ (f : Facts) (g : Place) where
   -- ---- locals

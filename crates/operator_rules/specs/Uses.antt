@@ -1,7 +1,7 @@
 -- How an expression is used.
 use Rattle.std.specs.Prelude.{Bool, true, false}
-use Rattle.expr_rules.specs.declared.uses.Use.{Use}
-use Rattle.expr_rules.specs.declared.uses.Use.TheVariants as use_
+use Rattle.operator_rules.specs.declared.uses.Use.{Use}
+use Rattle.operator_rules.specs.declared.uses.Use.TheVariants as use_
 
 -- its value is read
 abbrev pub is_read : Use → Bool

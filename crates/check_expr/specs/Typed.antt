@@ -19,13 +19,13 @@ use Rattle.type_facts.specs.Scopes.{own_type, find_local}
 use Rattle.type_facts.specs.declared.scope.Place.{Place}
 use Rattle.type_facts.specs.declared.scope.LocalVar.{LocalVar}
 use Rattle.written_types.specs.Types.{arrays}
-use Rattle.expr_rules.specs.declared.uses.Use.{Use}
-use Rattle.expr_rules.specs.declared.uses.Use.TheVariants as use_
-use Rattle.expr_rules.specs.Uses.{within}
-use Rattle.expr_rules.specs.Constants.{number}
-use Rattle.expr_rules.specs.Writtens.{type_said, written}
-use Rattle.expr_rules.specs.Targets.{Dotted, AValue, AType, Unknown, dotted, OfThis, OfValue, OfType, OfSuper, field_of, field_of_value, variable, super_field, superclass, called, constructor}
-use Rattle.expr_rules.specs.Operators.{unary, step, assign, compound, operands, cond, cast, instance_of, index, is_creatable, are_short, sizes}
+use Rattle.operator_rules.specs.declared.uses.Use.{Use}
+use Rattle.operator_rules.specs.declared.uses.Use.TheVariants as use_
+use Rattle.operator_rules.specs.Uses.{within}
+use Rattle.operator_rules.specs.Constants.{number}
+use Rattle.operator_rules.specs.Writtens.{type_said, written}
+use Rattle.member_uses.specs.Targets.{Dotted, AValue, AType, Unknown, dotted, OfThis, OfValue, OfType, OfSuper, field_of, field_of_value, variable, super_field, superclass, called, constructor}
+use Rattle.operator_rules.specs.Operators.{unary, step, assign, compound, operands, cond, cast, instance_of, index, is_creatable, are_short, sizes}
 
 -- ---- what each form makes of its parts
 

@@ -4,7 +4,7 @@ use Rattle.java_tree.specs.Plain as t
 use Rattle.java_core.specs.Plain as p
 use Rattle.checked.specs.Checked.{Checked, Fine, Broken, and_then, also}
 use Rattle.type_facts.specs.Facts.{Facts}
-use Rattle.program_rules.specs.Classes.{class_of}
+use Rattle.check_program.specs.Classes.{class_of}
 
 -- the types of a file, of which the first has the number c
 abbrev pub classes_of : Facts → (number : ℕ) → List t.TypeDecl → Checked (List p.Class)

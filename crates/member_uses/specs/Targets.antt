@@ -27,8 +27,8 @@ use Rattle.type_facts.specs.declared.scope.Place.{Place}
 use Rattle.type_facts.specs.declared.scope.LocalVar.{LocalVar}
 use Rattle.method_choice.specs.declared.choice.Candidate.{Candidate}
 use Rattle.method_choice.specs.Choice.{chosen}
-use Rattle.expr_rules.specs.declared.uses.Use.{Use}
-use Rattle.expr_rules.specs.Uses.{is_read, is_set, is_performed}
+use Rattle.operator_rules.specs.declared.uses.Use.{Use}
+use Rattle.operator_rules.specs.Uses.{is_read, is_set, is_performed}
 
 -- whose member is used: that of `this`, with nothing written before; of a value; of a type that is named; by `super`, of the type above
 pub data Receiver : Type 0 where

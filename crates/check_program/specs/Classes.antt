@@ -14,12 +14,12 @@ use Rattle.type_facts.specs.Facts.{Facts}
 use Rattle.type_facts.specs.declared.scope.LocalVar.{LocalVar}
 use Rattle.type_facts.specs.declared.scope.Place.{Place}
 use Rattle.written_types.specs.Types.{arrays}
-use Rattle.expr_rules.specs.Targets.{superclass, constructor}
-use Rattle.expr_rules.specs.Writtens.{type_said, written}
-use Rattle.expr_rules.specs.Typed.{initial}
-use Rattle.stmt_rules.specs.declared.jumps.Jumps.{Jumps}
-use Rattle.stmt_rules.specs.Pieces.{declared}
-use Rattle.stmt_rules.specs.Statements.{block, typed_stmts}
+use Rattle.member_uses.specs.Targets.{superclass, constructor}
+use Rattle.operator_rules.specs.Writtens.{type_said, written}
+use Rattle.check_expr.specs.Typed.{initial}
+use Rattle.check_stmt.specs.declared.jumps.Jumps.{Jumps}
+use Rattle.check_stmt.specs.Pieces.{declared}
+use Rattle.check_stmt.specs.Statements.{block, typed_stmts}
 
 -- ---- parts of declarations
 
