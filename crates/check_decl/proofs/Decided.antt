@@ -14,7 +14,7 @@ use Rattle.java_tree.specs.View.{var_plain, stmt_plain, stmts_plain}
 use Rattle.java_tree.specs.declared.fault.NoMemory.{NoMemory}
 use Rattle.class_world.specs.declared.world.World.{World}
 use Rattle.class_world.specs.declared.world.JavaType.TheVariants as ty
-use Rattle.class_world.specs.Subclasses.{Subclass}
+use Rattle.small_world.specs.Subclasses.{Subclass}
 use Rattle.java_typing.specs.Typing.{Local, find_local, step_type, local_of, scope_after}
 use Rattle.check_decl.specs.declared.scope.Scope.{Scope}
 use Rattle.check_decl.specs.declared.scope.Binding.TheVariants as binding

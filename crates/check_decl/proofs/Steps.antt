@@ -8,9 +8,9 @@ use Rattle.small_programs.specs.Grammar.{AreTypes, IsMain, AreSteps, Spells, loc
 use Rattle.class_world.specs.declared.world.World.{World}
 use Rattle.class_world.specs.declared.world.JavaType.{JavaType}
 use Rattle.class_world.specs.declared.world.JavaType.TheVariants as ty
-use Rattle.class_world.specs.Subclasses.{Subclass}
-use Rattle.class_world.specs.Members.{IsChosen}
-use Rattle.class_world.proofs.Chains.{same_number}
+use Rattle.small_world.specs.Subclasses.{Subclass}
+use Rattle.small_world.specs.Members.{IsChosen}
+use Rattle.small_world.proofs.Chains.{same_number}
 use Rattle.java_typing.specs.declared.table.Use.{Use}
 use Rattle.java_typing.specs.declared.table.Use.TheVariants as use_of
 use Rattle.java_typing.specs.Main.{main_steps, last_type}

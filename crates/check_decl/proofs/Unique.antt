@@ -7,10 +7,10 @@ use Rattle.java_grammar.specs.declared.token.Tok.{Tok}
 use Rattle.small_programs.specs.Nodes.{stmt_nodes}
 use Rattle.small_programs.specs.Grammar.{AreSteps, IsStep, Spells, local_at, assign_at, call_at, name_expr, name_at}
 use Rattle.class_world.specs.declared.world.JavaType.TheVariants as ty
-use Rattle.class_world.specs.Subclasses.{IsClassTree}
-use Rattle.class_world.specs.Members.{AreApart, IsChosen}
-use Rattle.class_world.proofs.Chains.{same_number}
-use Rattle.class_world.proofs.Chosen.{chosen_one}
+use Rattle.small_world.specs.Subclasses.{IsClassTree}
+use Rattle.small_world.specs.Members.{AreApart, IsChosen}
+use Rattle.small_world.proofs.Chains.{same_number}
+use Rattle.small_world.proofs.Chosen.{chosen_one}
 use Rattle.java_typing.specs.declared.table.Use.TheVariants as use_of
 use Rattle.java_typing.specs.Main.{main_steps, HasStmt}
 use Rattle.java_typing.specs.WorldOf.{world_of}

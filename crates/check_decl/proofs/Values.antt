@@ -12,9 +12,9 @@ use Rattle.class_world.specs.declared.world.World.{World}
 use Rattle.class_world.specs.declared.world.JavaType.{JavaType, out-JavaType}
 use Rattle.class_world.specs.declared.world.JavaType.TheVariants as ty
 use Rattle.class_world.specs.declared.world.JavaType.TheOpen as f
-use Rattle.class_world.specs.Subclasses.{Subclass}
-use Rattle.class_world.specs.Members.{IsChosen}
-use Rattle.class_world.proofs.Chains.{same_number}
+use Rattle.small_world.specs.Subclasses.{Subclass}
+use Rattle.small_world.specs.Members.{IsChosen}
+use Rattle.small_world.proofs.Chains.{same_number}
 use Rattle.java_typing.specs.WorldOf.{world_of}
 use Rattle.java_typing.specs.Typing.{Local, find_local, step_type, IsConstructor}
 use Rattle.check_decl.specs.Scopes.{IsHeld}

@@ -12,7 +12,7 @@ ghost use Rattle.check_decl.specs.Scopes.{Binds};
 ghost use Rattle.check_decl.specs.Holds.{at_start, AllHold, AreOf, Decides, IsClassOf, IsReady, PerformHolds};
 
 use crate::scope::{Binding, Scope};
-use class_world::{find_method, is_sub_class};
+use small_world::{find_method, is_sub_class};
 use decl_table::Declared;
 use java_tree::NoMemory;
 use java_tree::tree::{Expr, ExprForm, Name, SourceUnit, Stmt, StmtForm, TypeExpr, Var};

@@ -17,7 +17,7 @@ use Rattle.class_world.specs.declared.world.JavaType.{JavaType, out-JavaType}
 use Rattle.class_world.specs.declared.world.JavaType.TheVariants as ty
 use Rattle.class_world.specs.declared.world.JavaType.TheOpen as f
 use Rattle.class_world.specs.Types.{object_type, substitute, erased, variables, with_own, IsTypeOver}
-use Rattle.class_world.specs.Subclasses.{IsDirectSuper}
+use Rattle.class_world.specs.DirectSupers.{IsDirectSuper}
 use Rattle.class_world.specs.Subtypes.{Subtype, same, through, declared, object, raw, null, arrays, char_int, int_long, IsDeclaredSuper, IsBelowTwo, Parameterizes}
 use Rattle.class_world.specs.Sound.{HaveClassSupers, IsClassOver, IsSingle}
 use Rattle.class_world.specs.Merged.{ClashOne, HasPlaces, IsCovered, IsListed, Takes}

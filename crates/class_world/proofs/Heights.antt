@@ -11,7 +11,7 @@ use Rattle.class_world.specs.declared.world.JavaType.{JavaType, out-JavaType}
 use Rattle.class_world.specs.declared.world.JavaType.TheVariants as ty
 use Rattle.class_world.specs.declared.world.JavaType.TheOpen as f
 use Rattle.class_world.specs.Types.{variables, IsTypeOver}
-use Rattle.class_world.specs.Subclasses.{IsDirectSuper}
+use Rattle.class_world.specs.DirectSupers.{IsDirectSuper}
 use Rattle.class_world.specs.Subtypes.{Subtype, same, through}
 use Rattle.class_world.specs.Sound.{HaveClassSupers, IsSet, IsSound}
 use Rattle.class_world.proofs.Forms.{same_class}

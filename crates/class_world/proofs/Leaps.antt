@@ -7,7 +7,7 @@ use Rattle.class_world.specs.declared.world.Above.{Above}
 use Rattle.class_world.specs.declared.world.JavaType.{JavaType}
 use Rattle.class_world.specs.declared.world.JavaType.TheVariants as ty
 use Rattle.class_world.specs.Types.{substitute, with_own}
-use Rattle.class_world.specs.Subclasses.{IsDirectSuper}
+use Rattle.class_world.specs.DirectSupers.{IsDirectSuper}
 use Rattle.class_world.specs.Subtypes.{Subtype, through, declared}
 use Rattle.class_world.specs.Sound.{AreSupers, HaveClassSupers, IsShortcut, IsSuper}
 use Rattle.class_world.specs.Merged.{HaveShortcuts, LeadsUp}

@@ -1,8 +1,3 @@
-pub mod Chains
-pub mod Tables
-pub mod Chosen
-pub mod Flags
-pub mod Lookups
 pub mod Forms
 pub mod Substs
 pub mod Orders

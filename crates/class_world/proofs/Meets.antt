@@ -11,7 +11,7 @@ use Rattle.class_world.specs.declared.world.JavaType.{JavaType}
 use Rattle.class_world.specs.declared.world.JavaType.TheVariants as ty
 use Rattle.class_world.specs.declared.paths.Path.{Path}
 use Rattle.class_world.specs.Types.{substitute, variables, with_own, IsTypeOver}
-use Rattle.class_world.specs.Subclasses.{IsDirectSuper}
+use Rattle.class_world.specs.DirectSupers.{IsDirectSuper}
 use Rattle.class_world.specs.Subtypes.{Subtype, same, through, declared, Parameterizes}
 use Rattle.class_world.specs.Sound.{HaveClassSupers, IsSet}
 use Rattle.class_world.specs.Sequences.{IsSequence}

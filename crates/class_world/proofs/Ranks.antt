@@ -5,7 +5,7 @@ use Rattle.java_tree.specs.declared.tree.Primitive.TheVariants as prim
 use Rattle.class_world.specs.declared.world.World.{World}
 use Rattle.class_world.specs.declared.world.JavaType.{JavaType}
 use Rattle.class_world.specs.declared.world.JavaType.TheVariants as ty
-use Rattle.class_world.specs.Subclasses.{IsDirectSuper}
+use Rattle.class_world.specs.DirectSupers.{IsDirectSuper}
 use Rattle.class_world.specs.Subtypes.{Subtype, same, through, declared, object, raw, null, arrays, char_int, int_long}
 use Rattle.class_world.specs.Sound.{HaveClassSupers}
 use Rattle.class_world.specs.Merged.{IsAboveItself}

@@ -9,7 +9,7 @@ use Rattle.class_world.specs.declared.world.JavaType.TheVariants as ty
 use Rattle.class_world.specs.declared.seen.Seen.{Seen}
 use Rattle.class_world.specs.Seen.{seen_as}
 use Rattle.class_world.specs.Types.{substitute, erased, variables, IsTypeOver}
-use Rattle.class_world.specs.Subclasses.{IsDirectSuper}
+use Rattle.class_world.specs.DirectSupers.{IsDirectSuper}
 use Rattle.class_world.specs.Subtypes.{Subtype, same, through, declared, raw, IsDeclaredSuper, IsSeenAs, Parameterizes}
 use Rattle.class_world.specs.Sound.{HaveClassSupers, IsOfWorld, IsRow, IsSet, IsShortcut, IsSound, IsSuper}
 use Rattle.class_world.specs.Climbs.{HasBase, IsClassType, IsGeneric, IsRaw, IsSaid, IsSuperBy, IsWayUp, LeadsTo}

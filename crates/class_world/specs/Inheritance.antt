@@ -12,7 +12,7 @@ use Rattle.class_world.specs.declared.world.JavaType.{JavaType, out-JavaType}
 use Rattle.class_world.specs.declared.world.JavaType.TheVariants as ty
 use Rattle.class_world.specs.declared.world.JavaType.TheOpen as form
 use Rattle.class_world.specs.declared.world.JavaType.TheOpen.{JavaType-F}
-use Rattle.class_world.specs.Subclasses.{IsDirectSuper}
+use Rattle.class_world.specs.DirectSupers.{IsDirectSuper}
 use Rattle.class_world.specs.Signatures.{IsMethod, HaveOneSignatureIn}
 
 -- The class s is that of a declared supertype of c; or it is Object, and c an interface that declares none (9.2).

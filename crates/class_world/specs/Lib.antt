@@ -1,3 +1,4 @@
+pub mod DirectSupers
 pub mod Types
 pub mod Subtypes
 pub mod Sound
@@ -10,11 +11,6 @@ pub mod Sequences
 pub mod Sorts
 pub mod Ordered
 pub mod Meets
-pub mod Subclasses
-pub mod Members
-pub mod Lookup
-pub mod Tables
-pub mod Names
 pub mod Access
 pub mod Signatures
 pub mod Inheritance

@@ -3,7 +3,7 @@ use Rattle.std.specs.Prelude.{◌≡◌, ℕ, ◌<◌, List, Some, slice_get, le
 use Rattle.class_world.specs.declared.world.World.{World}
 use Rattle.class_world.specs.declared.world.JavaType.{JavaType}
 use Rattle.class_world.specs.declared.world.JavaType.TheVariants as ty
-use Rattle.class_world.specs.Subclasses.{IsDirectSuper}
+use Rattle.class_world.specs.DirectSupers.{IsDirectSuper}
 
 -- All classes of the world, by number, each once, and no other number; and before each stand the classes of its declared supertypes.
 pub record IsSequence (w : World) (s : List ℕ) : Type 0 where

@@ -8,7 +8,7 @@ ghost use Rattle.class_world.specs.Merged.{HasPlaces};
 ghost use Rattle.class_world.specs.Graphs.{AreClassesOf, IsSuperGraph};
 ghost use Rattle.class_world.specs.Climbs.{Climbs, Collide, FlagBases, HasOneWay, IsClassType};
 ghost use Rattle.class_world.specs.Ordered.{IsClassBelowTwo, IsFirstBelowTwo, IsSingleClass};
-ghost use Rattle.class_world.specs.Subclasses.{IsDirectSuper};
+ghost use Rattle.class_world.specs.DirectSupers.{IsDirectSuper};
 ghost use Rattle.class_world.specs.Meets.{AreClassRows, ArePaths, MarkDoubled};
 ghost use Rattle.class_world.specs.declared.world.JavaType.TheVariants as ty;
 

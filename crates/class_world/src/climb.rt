@@ -1,7 +1,7 @@
 //! The way up from a class type to the parameterization of one class, by the bits and the shortcuts of the table. Past n classes that each declare one supertype, with few arguments that have none themselves, it takes about log n steps. A declared supertype without such arguments, or one over which no shortcut goes, is a step of its own.
 
 ghost use Rattle.std.specs.Prelude.{◌≡◌, ℕ, List, Some, ◌↔◌, IsTrue, IfOk, IfSome, IfNone, map, slice_get};
-ghost use Rattle.class_world.specs.Subclasses.{IsDirectSuper};
+ghost use Rattle.class_world.specs.DirectSupers.{IsDirectSuper};
 ghost use Rattle.class_world.specs.Subtypes.{Parameterizes, Subtype};
 ghost use Rattle.class_world.specs.Sound.{IsOfWorld, IsShortcut, IsSound};
 ghost use Rattle.class_world.specs.Climbs.{HasBase, IsClassType, IsSaid, IsWayUp, LeadsTo};

@@ -3,7 +3,7 @@
 ghost use Rattle.std.specs.Prelude.{◌≡◌, ℕ, ◌<◌, ◌^◌, length, List, None, Some, slice_get, IfOk};
 ghost use Rattle.class_world.specs.Sound.{AreSupers};
 ghost use Rattle.class_world.specs.Climbs.{MarkGeneric};
-ghost use Rattle.class_world.specs.Subclasses.{IsDirectSuper};
+ghost use Rattle.class_world.specs.DirectSupers.{IsDirectSuper};
 ghost use Rattle.class_world.specs.Merged.{HasRow, HaveShortcuts};
 ghost use Rattle.class_world.specs.Sequences.{IsSequence};
 ghost use Rattle.class_world.specs.Ordered.{IsOrdered};

@@ -1,7 +1,7 @@
 //! The ways up from a class to one above it, and the type of that class that they lead to (JLS 3rd edition, 8.1.5).
 
 ghost use Rattle.std.specs.Prelude.{◌≡◌, ℕ, Some, slice_get, IsTrue, IfOk, OnOk, IfSome};
-ghost use Rattle.class_world.specs.Subclasses.{IsDirectSuper};
+ghost use Rattle.class_world.specs.DirectSupers.{IsDirectSuper};
 ghost use Rattle.class_world.specs.Subtypes.{Subtype};
 ghost use Rattle.class_world.specs.Sound.{HaveClassSupers};
 ghost use Rattle.class_world.specs.Climbs.{IsClassType};

@@ -2,7 +2,7 @@
 
 ghost use Rattle.std.specs.Prelude.{◌≡◌, ℕ, ◌<◌, ◌≤◌, ◌^◌, List, [], Some, true, false, length, slice_get, IsTrue, IfOk, IfSome, IfNone, ◌↔◌, ◌∷◌};
 ghost use Rattle.class_world.specs.Sound.{HaveClassSupers, IsSound};
-ghost use Rattle.class_world.specs.Subclasses.{IsDirectSuper};
+ghost use Rattle.class_world.specs.DirectSupers.{IsDirectSuper};
 ghost use Rattle.class_world.specs.Merged.{FinishedBefore, IsAboveItself, IsSearch, declared_supers};
 ghost use Rattle.class_world.specs.Sequences.{IsSequence};
 ghost use Rattle.class_world.specs.Sorts.{IsSorted};

@@ -10,8 +10,8 @@ use Rattle.edit_writer.specs.declared.places.Place.{Place}
 use Rattle.edit_writer.specs.Places.{place_at}
 use Rattle.class_world.specs.declared.world.World.{World}
 use Rattle.class_world.specs.declared.world.JavaType.TheVariants as ty
-use Rattle.class_world.specs.Subclasses.{Subclass}
-use Rattle.class_world.specs.Members.{IsChosen}
+use Rattle.small_world.specs.Subclasses.{Subclass}
+use Rattle.small_world.specs.Members.{IsChosen}
 use Rattle.java_typing.specs.Main.{main_steps, HasStmt}
 use Rattle.java_typing.specs.Typing.{step_type}
 

@@ -13,7 +13,7 @@ use Rattle.class_world.specs.declared.world.JavaType.{JavaType}
 use Rattle.class_world.specs.declared.world.JavaType.TheVariants as ty
 use Rattle.class_world.specs.Types.{a_class}
 use Rattle.class_world.specs.Sound.{IsSuper, AreSupers, IsClassOver, HaveClassSupers}
-use Rattle.class_world.specs.Subclasses.{IsDirectSuper}
+use Rattle.class_world.specs.DirectSupers.{IsDirectSuper}
 use Rattle.class_world.proofs.Forms.{class_kind, array_kind, same_class}
 use Rattle.class_world.proofs.Orders.{class_parts}
 use Rattle.rule_order.specs.declared.Breach.{Breach}

@@ -12,7 +12,7 @@ use Rattle.class_world.specs.declared.world.TypeInfo.{TypeInfo}
 use Rattle.class_world.specs.declared.world.JavaType.{out-JavaType}
 use Rattle.class_world.specs.declared.world.JavaType.TheVariants as ty
 use Rattle.class_world.specs.declared.world.JavaType.TheOpen as f
-use Rattle.class_world.specs.Subclasses.{Subclass, same, direct, through, IsBelow, IsClassTree}
+use Rattle.small_world.specs.Subclasses.{Subclass, same, direct, through, IsBelow, IsClassTree}
 use Rattle.decl_table.specs.Numbered.{IsSuperclass, HaveSingleSupers, IsNumbered}
 
 -- ---- a class has one superclass

@@ -10,7 +10,7 @@ use Rattle.java_tree.specs.Plain as t
 use Rattle.java_tree.specs.Plain.{TypeExpr, Member, TypeDecl, SourceUnit}
 use Rattle.class_world.specs.declared.world.TypeInfo.{TypeInfo}
 use Rattle.class_world.specs.declared.world.MethodInfo.{MethodInfo}
-use Rattle.class_world.specs.Names.{ListsMethods, IsOwned}
+use Rattle.small_world.specs.Names.{ListsMethods, IsOwned}
 use Rattle.java_typing.specs.Main.{before_last}
 use Rattle.java_typing.specs.WorldOf.{place_of, simple_name, superclass_of, type_info, infos_of, numbers, method_info, methods_of, default_constructor, object_constructor, built_in_types, world_of}
 use Rattle.java_typing.specs.Declarations.{TypesDiffer, written_methods}

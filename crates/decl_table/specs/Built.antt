@@ -1,9 +1,9 @@
 -- What is built of a file's declarations where no rule on them is broken.
 use Rattle.std.specs.Prelude.{◌≡◌, ℕ, List}
 use Rattle.java_tree.specs.Plain.{SourceUnit}
-use Rattle.class_world.specs.Subclasses.{IsClassTree}
-use Rattle.class_world.specs.Tables.{Indexes}
-use Rattle.class_world.specs.Names.{ListsMethods}
+use Rattle.small_world.specs.Subclasses.{IsClassTree}
+use Rattle.small_world.specs.Tables.{Indexes}
+use Rattle.small_world.specs.Names.{ListsMethods}
 use Rattle.java_typing.specs.WorldOf.{world_of}
 use Rattle.java_typing.specs.Declarations.{DeclarationsHold}
 use Rattle.decl_table.specs.declared.small.Declared.{Declared}

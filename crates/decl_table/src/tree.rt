@@ -1,7 +1,7 @@
 //! Whether the classes are a tree (JLS 3rd edition, 8.1.4).
 
 ghost use Rattle.std.specs.Prelude.{◌≡◌, ℕ, ◌<◌, ◌≤◌, length, slice_index, true, false, None, Ok, IfOk, IfSome, IfNone};
-ghost use Rattle.class_world.specs.Subclasses.{IsBelow, IsClassTree};
+ghost use Rattle.small_world.specs.Subclasses.{IsBelow, IsClassTree};
 ghost use Rattle.decl_table.specs.Numbered.{IsSuperclass, HaveSingleSupers, IsNumbered};
 
 use class_world::{JavaType, World};

@@ -17,7 +17,7 @@ use Rattle.small_programs.specs.Grammar.{node_of, local_at, name_at, type_at, Is
 use Rattle.class_world.specs.declared.world.World.{World}
 use Rattle.class_world.specs.declared.world.TypeInfo.{TypeInfo}
 use Rattle.class_world.specs.declared.world.JavaType.{JavaType}
-use Rattle.class_world.specs.Names.{FlagsNames}
+use Rattle.small_world.specs.Names.{FlagsNames}
 use Rattle.java_typing.specs.declared.table.Use.{Use}
 use Rattle.java_typing.specs.Main.{main_steps, HasStmt, main_method, params_of}
 use Rattle.java_typing.specs.Typing.{IsStmtTyped, AreTyped, scope_after, params_in, step_type}

@@ -10,8 +10,8 @@ use Rattle.small_programs.proofs.Places.{here}
 use Rattle.small_programs.proofs.TokenLemmas.{within}
 use Rattle.class_world.specs.declared.world.World.{World}
 use Rattle.class_world.specs.declared.world.JavaType.TheVariants as ty
-use Rattle.class_world.specs.Subclasses.{Subclass}
-use Rattle.class_world.specs.Names.{IsFlagged, FlagsNames}
+use Rattle.small_world.specs.Subclasses.{Subclass}
+use Rattle.small_world.specs.Names.{IsFlagged, FlagsNames}
 use Rattle.java_typing.specs.Main.{main_steps, HasStmt}
 use Rattle.tree_edit.proofs.Standing.{place_of, begins}
 use Rattle.constraint_terms.specs.Question.{Local, Declares, CKind, FlowsTo, by_initialiser, by_assignment, DoesNotFit, IsUnmet, IsFirstUnmet, AllAnswered, AllFit, AreMet}

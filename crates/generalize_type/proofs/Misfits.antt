@@ -9,8 +9,8 @@ use Rattle.java_tree.specs.View.{stmts_plain}
 use Rattle.class_world.specs.declared.world.World.{World}
 use Rattle.class_world.specs.declared.world.TypeInfo.{TypeInfo}
 use Rattle.class_world.specs.declared.world.JavaType.TheVariants as ty
-use Rattle.class_world.specs.Subclasses.{Subclass}
-use Rattle.class_world.specs.Names.{IsFlagged}
+use Rattle.small_world.specs.Subclasses.{Subclass}
+use Rattle.small_world.specs.Names.{IsFlagged}
 use Rattle.java_typing.specs.Main.{main_steps}
 use Rattle.constraint_terms.specs.Question.{Local, Declares}
 use Rattle.generalize_type.specs.declared.locals.WrittenLocal.{WrittenLocal}

@@ -12,9 +12,10 @@ use Rattle.java_tree.specs.Plain.{Stmt, Stmts}
 use Rattle.class_world.specs.declared.world.World.{World}
 use Rattle.class_world.specs.declared.world.JavaType.{JavaType}
 use Rattle.class_world.specs.declared.world.JavaType.TheVariants as ty
-use Rattle.class_world.specs.Subclasses.{Subclass, same, direct, through, IsDirectSuper, IsClassTree}
-use Rattle.class_world.specs.Names.{IsFlagged}
-use Rattle.class_world.proofs.Chains.{class_step, one_superclass}
+use Rattle.class_world.specs.DirectSupers.{IsDirectSuper}
+use Rattle.small_world.specs.Subclasses.{Subclass, same, direct, through, IsClassTree}
+use Rattle.small_world.specs.Names.{IsFlagged}
+use Rattle.small_world.proofs.Chains.{class_step, one_superclass}
 use Rattle.java_typing.specs.Main.{HasStmt}
 use Rattle.generalize_type.specs.declared.locals.WrittenLocal.{WrittenLocal}
 use Rattle.generalize_type.specs.Steps.{written_local, locals_in}

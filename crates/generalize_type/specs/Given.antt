@@ -6,8 +6,8 @@ use Rattle.java_grammar.specs.declared.token.Tok.{Tok}
 use Rattle.small_programs.specs.Texts.{Lexes}
 use Rattle.small_programs.specs.Grammar.{Spells}
 use Rattle.class_world.specs.declared.world.World.{World}
-use Rattle.class_world.specs.Subclasses.{IsClassTree}
-use Rattle.class_world.specs.Names.{ListsMethods}
+use Rattle.small_world.specs.Subclasses.{IsClassTree}
+use Rattle.small_world.specs.Names.{ListsMethods}
 use Rattle.java_typing.specs.WorldOf.{world_of}
 use Rattle.java_typing.specs.Declarations.{DeclarationsHold}
 use Rattle.java_typing.specs.Typing.{StepsHold}

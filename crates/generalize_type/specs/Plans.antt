@@ -5,7 +5,7 @@ use Rattle.java_tree.specs.Plain.{SourceUnit}
 use Rattle.edit_writer.specs.declared.places.Place.{Place}
 use Rattle.class_world.specs.declared.world.World.{World}
 use Rattle.class_world.specs.declared.world.TypeInfo.{TypeInfo}
-use Rattle.class_world.specs.Subclasses.{IsBelow}
+use Rattle.small_world.specs.Subclasses.{IsBelow}
 use Rattle.constraint_terms.specs.Question.{Local, Declares, BeginsAt, CKind, IsUnmet, IsFirstUnmet, AreMet}
 use Rattle.generalize_type.specs.declared.small.SmallEdit.{SmallEdit}
 

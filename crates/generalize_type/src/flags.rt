@@ -2,13 +2,14 @@
 
 ghost use Rattle.std.specs.Prelude.{◌≡◌, ℕ, List, true, length, slice_set, IfOk};
 ghost use Rattle.java_tree.specs.View.{unit_plain};
-ghost use Rattle.class_world.specs.Subclasses.{IsClassTree};
+ghost use Rattle.small_world.specs.Subclasses.{IsClassTree};
 ghost use Rattle.generalize_type.specs.Steps.{locals_in};
 ghost use Rattle.generalize_type.specs.Given.{IsGiven};
 ghost use Rattle.generalize_type.specs.Fits.{is_set, FlagsClass, FlagsAbove, misfits_after, AreMisfits};
 
 use crate::locals::{local_of, steps_of};
-use class_world::{World, superclass};
+use class_world::World;
+use small_world::superclass;
 use java_tree::tree::{Name, SourceUnit, Stmt};
 use java_tree::{Names, NoMemory};
 use std::alloc::Global;

@@ -9,7 +9,7 @@ use Rattle.class_world.specs.declared.world.MethodInfo.{MethodInfo}
 use Rattle.class_world.specs.declared.world.JavaType.{JavaType}
 use Rattle.class_world.specs.declared.world.JavaType.TheVariants as ty
 use Rattle.class_world.specs.Types.{substitute, variables, with_own, of_class, AreReferences, IsTypeOver}
-use Rattle.class_world.specs.Subclasses.{IsDirectSuper}
+use Rattle.class_world.specs.DirectSupers.{IsDirectSuper}
 use Rattle.class_world.specs.Subtypes as order
 use Rattle.class_world.specs.Subtypes.{Subtype}
 use Rattle.class_world.specs.Sound.{IsSound, IsOfWorld}

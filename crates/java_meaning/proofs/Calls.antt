@@ -6,7 +6,7 @@ use Rattle.java_tree.specs.declared.tree.Stmt as declared_stmt
 use Rattle.java_tree.specs.Plain.{SourceUnit}
 use Rattle.java_tree.specs.View.{stmt_plain, stmts_plain}
 use Rattle.class_world.specs.declared.world.World.{World}
-use Rattle.class_world.specs.Members.{IsChosen}
+use Rattle.small_world.specs.Members.{IsChosen}
 use Rattle.java_meaning.specs.Steps.{store_of, call_of}
 use Rattle.java_meaning.specs.Simple.{Ran, Course, Goes, Cut, Holds, go_on, goes_with, enters, lines, class_held, PickIs, steps_run}
 use Rattle.java_meaning.specs.Runs.{course, call_run, step_run, IsNext, Holding}

@@ -5,8 +5,9 @@ use Rattle.class_world.specs.declared.world.World.{World}
 use Rattle.class_world.specs.declared.world.TypeInfo.{TypeInfo}
 use Rattle.class_world.specs.declared.world.JavaType.{JavaType}
 use Rattle.class_world.specs.declared.world.JavaType.TheVariants as ty
-use Rattle.class_world.specs.Subclasses.{IsDirectSuper, IsClassTree}
-use Rattle.class_world.proofs.Chains.{one_superclass}
+use Rattle.class_world.specs.DirectSupers.{IsDirectSuper}
+use Rattle.small_world.specs.Subclasses.{IsClassTree}
+use Rattle.small_world.proofs.Chains.{one_superclass}
 use Rattle.java_meaning.specs.Meaning.{class_number, first_class, constructor_of, superclass}
 use Rattle.java_meaning.specs.Simple.{Ran, Course, Goes, Cut, go_on, goes_with, enters, constructs}
 use Rattle.java_meaning.specs.Runs.{course}

@@ -11,8 +11,8 @@ use Rattle.class_world.specs.declared.world.TypeInfo.{TypeInfo}
 use Rattle.class_world.specs.declared.world.MethodInfo.{MethodInfo}
 use Rattle.class_world.specs.declared.world.JavaType.{JavaType}
 use Rattle.class_world.specs.declared.world.JavaType.TheVariants as ty
-use Rattle.class_world.specs.Names.{ListsMethods, IsOwned}
-use Rattle.class_world.specs.Subclasses.{IsDirectSuper}
+use Rattle.small_world.specs.Names.{ListsMethods, IsOwned}
+use Rattle.class_world.specs.DirectSupers.{IsDirectSuper}
 use Rattle.java_typing.specs.Main.{before_last}
 use Rattle.java_typing.specs.WorldOf.{place_of, simple_name, class_named, superclass_of, type_info, infos_of, method_info, methods_of, default_constructor, object_constructor, built_in_types, world_of}
 use Rattle.java_typing.specs.Typing.{step_type, IsConstructor}

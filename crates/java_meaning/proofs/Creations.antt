@@ -6,7 +6,7 @@ use Rattle.std.proofs.lemmas.Bool.Decides.{nat_tests}
 use Rattle.java_tree.specs.Plain.{SourceUnit}
 use Rattle.class_world.specs.declared.world.World.{World}
 use Rattle.class_world.specs.declared.world.MethodInfo.{MethodInfo}
-use Rattle.class_world.specs.Subclasses.{IsClassTree}
+use Rattle.small_world.specs.Subclasses.{IsClassTree}
 use Rattle.java_typing.specs.WorldOf.{world_of, object_constructor}
 use Rattle.java_typing.specs.Typing.{Annotation, IsConstructor}
 use Rattle.java_typing.specs.Correspond.{Program}

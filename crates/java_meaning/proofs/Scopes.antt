@@ -10,11 +10,11 @@ use Rattle.class_world.specs.declared.world.MethodInfo.{MethodInfo}
 use Rattle.class_world.specs.declared.world.JavaType.{JavaType, out-JavaType}
 use Rattle.class_world.specs.declared.world.JavaType.TheVariants as ty
 use Rattle.class_world.specs.declared.world.JavaType.TheOpen as f
-use Rattle.class_world.specs.Subclasses.{Subclass, IsClassTree}
-use Rattle.class_world.specs.Members.{AreApart, IsChosen}
-use Rattle.class_world.specs.Lookup.{AreLookups, IsLookup, first}
-use Rattle.class_world.proofs.Chosen.{chosen_one, chosen_below, chosen_declared}
-use Rattle.class_world.proofs.Lookups.{one_lookup, chosen_overrides}
+use Rattle.small_world.specs.Subclasses.{Subclass, IsClassTree}
+use Rattle.small_world.specs.Members.{AreApart, IsChosen}
+use Rattle.small_world.specs.Lookup.{AreLookups, IsLookup, first}
+use Rattle.small_world.proofs.Chosen.{chosen_one, chosen_below, chosen_declared}
+use Rattle.small_world.proofs.Lookups.{one_lookup, chosen_overrides}
 use Rattle.java_typing.specs.WorldOf.{world_of}
 use Rattle.java_typing.specs.Typing.{Annotation, Local, find_local}
 use Rattle.java_values.specs.declared.value.Value.{Value}

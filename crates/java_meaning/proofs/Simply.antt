@@ -10,9 +10,9 @@ use Rattle.small_programs.specs.Grammar.{AreSteps, IsStep, Spells, local_at, ass
 use Rattle.class_world.specs.declared.world.World.{World}
 use Rattle.class_world.specs.declared.world.MethodInfo.{MethodInfo}
 use Rattle.class_world.specs.declared.world.JavaType.TheVariants as ty
-use Rattle.class_world.specs.Subclasses.{Subclass, same as itself, through, IsClassTree}
-use Rattle.class_world.specs.Members.{AreApart}
-use Rattle.class_world.specs.Lookup.{AreLookups}
+use Rattle.small_world.specs.Subclasses.{Subclass, same as itself, through, IsClassTree}
+use Rattle.small_world.specs.Members.{AreApart}
+use Rattle.small_world.specs.Lookup.{AreLookups}
 use Rattle.java_typing.specs.Main.{main_method, main_steps, params_of}
 use Rattle.java_typing.specs.WorldOf.{world_of, param_type}
 use Rattle.java_typing.specs.Declarations.{DeclarationsHold}

@@ -3,9 +3,9 @@ use Rattle.std.proofs.Common.{ℕ, ◌⊎◌, inl, inr, List, Option, Some, None
 use Rattle.java_tree.specs.declared.tree.Name.{Name}
 use Rattle.java_tree.specs.Plain.{SourceUnit}
 use Rattle.class_world.specs.declared.world.World.{World}
-use Rattle.class_world.specs.Subclasses.{IsClassTree}
-use Rattle.class_world.specs.Members.{AreApart, IsChosen}
-use Rattle.class_world.proofs.Lookups.{chosen_or_not}
+use Rattle.small_world.specs.Subclasses.{IsClassTree}
+use Rattle.small_world.specs.Members.{AreApart, IsChosen}
+use Rattle.small_world.proofs.Lookups.{chosen_or_not}
 use Rattle.java_typing.specs.WorldOf.{world_of}
 use Rattle.java_typing.specs.Declarations.{DeclarationsHold}
 use Rattle.java_typing.specs.Typing.{StepsHold}

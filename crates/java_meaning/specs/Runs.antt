@@ -15,8 +15,8 @@ use Rattle.decl_table.specs.Built.{IsBuilt}
 use Rattle.java_meaning.specs.Outcome.{Outcome, Gives, Threw, Bound}
 use Rattle.class_world.specs.declared.world.World.{World}
 use Rattle.class_world.specs.declared.world.TypeInfo.{TypeInfo}
-use Rattle.class_world.specs.Subclasses.{IsClassTree}
-use Rattle.class_world.specs.Tables.{Indexes}
+use Rattle.small_world.specs.Subclasses.{IsClassTree}
+use Rattle.small_world.specs.Tables.{Indexes}
 use Rattle.decl_table.specs.Classes.{Numbers}
 use Rattle.java_meaning.specs.Meaning as meaning
 use Rattle.java_meaning.specs.Meaning.{Body, bodies, member_body, is_plain_constructor}

@@ -4,7 +4,7 @@ use Rattle.java_tree.specs.declared.tree.Name.{Name}
 use Rattle.java_tree.specs.Plain as t
 use Rattle.java_tree.specs.Plain.{Expr, Stmts, SourceUnit}
 use Rattle.class_world.specs.declared.world.World.{World}
-use Rattle.class_world.specs.Members.{IsChosen}
+use Rattle.small_world.specs.Members.{IsChosen}
 use Rattle.java_typing.specs.Main.{main_steps}
 use Rattle.java_typing.specs.Typing.{step_type}
 use Rattle.java_meaning.specs.Meaning.{Body, Declared, bodies, constructor_of, superclass}

@@ -19,7 +19,7 @@ use crate::bodies::main_number;
 use crate::machine::{Locals, Machine};
 use crate::steps::{LocalCall, Source, Store, call_of, store_of};
 use crate::tables::Tables;
-use class_world::find_method;
+use small_world::find_method;
 use decl_table::Declared;
 use java_tree::tree::{Name, SourceUnit, Stmt};
 use java_tree::{Items, NoMemory};

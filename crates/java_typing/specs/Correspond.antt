@@ -5,7 +5,7 @@ use Rattle.java_tree.specs.declared.tree.Node.{Node}
 use Rattle.java_tree.specs.Plain as t
 use Rattle.java_tree.specs.Plain.{TypeExpr, Expr, MaybeExpr, Exprs, Var, Param, Stmt, Stmts, FieldDecl, MethodDecl, Member, TypeDecl, SourceUnit}
 use Rattle.class_world.specs.declared.world.World.{World}
-use Rattle.class_world.specs.Lookup.{Overrides, AreLookups}
+use Rattle.small_world.specs.Lookup.{Overrides, AreLookups}
 use Rattle.java_typing.specs.declared.table.Use.{Use}
 use Rattle.java_typing.specs.declared.table.Use.TheVariants as use_of
 use Rattle.java_typing.specs.Main.{statements}

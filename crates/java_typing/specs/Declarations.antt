@@ -6,8 +6,8 @@ use Rattle.java_tree.specs.Plain.{TypeDecl, SourceUnit}
 use Rattle.class_world.specs.declared.world.World.{World}
 use Rattle.class_world.specs.declared.world.TypeInfo.{TypeInfo}
 use Rattle.class_world.specs.declared.world.MethodInfo.{MethodInfo}
-use Rattle.class_world.specs.Subclasses.{IsBelow}
-use Rattle.class_world.specs.Members.{AreApart}
+use Rattle.small_world.specs.Subclasses.{IsBelow}
+use Rattle.small_world.specs.Members.{AreApart}
 use Rattle.java_typing.specs.WorldOf.{superclass_of}
 
 -- Names that no class of a small program gives to a method without parameters: those of S19, those that would override a method of Object

@@ -7,8 +7,8 @@ use Rattle.class_world.specs.declared.world.World.{World}
 use Rattle.class_world.specs.declared.world.MethodInfo.{MethodInfo}
 use Rattle.class_world.specs.declared.world.JavaType.{JavaType}
 use Rattle.class_world.specs.declared.world.JavaType.TheVariants as ty
-use Rattle.class_world.specs.Subclasses.{Subclass}
-use Rattle.class_world.specs.Members.{IsChosen}
+use Rattle.small_world.specs.Subclasses.{Subclass}
+use Rattle.small_world.specs.Members.{IsChosen}
 use Rattle.java_typing.specs.declared.table.Use.{Use}
 use Rattle.java_typing.specs.declared.table.Use.TheVariants as use_of
 use Rattle.java_typing.specs.Main.{before_last, main_method, main_steps, params_of, statements}

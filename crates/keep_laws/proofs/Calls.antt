@@ -13,10 +13,10 @@ use Rattle.small_programs.specs.Nodes.{stmt_nodes}
 use Rattle.small_programs.specs.Grammar.{type_at, local_at, IsStep, AreSteps, Spells}
 use Rattle.class_world.specs.declared.world.World.{World}
 use Rattle.class_world.specs.declared.world.JavaType.{JavaType}
-use Rattle.class_world.specs.Subclasses.{IsClassTree}
-use Rattle.class_world.specs.Members.{IsChosen, AreApart}
-use Rattle.class_world.proofs.Chains.{same_number}
-use Rattle.class_world.proofs.Chosen.{chosen_one}
+use Rattle.small_world.specs.Subclasses.{IsClassTree}
+use Rattle.small_world.specs.Members.{IsChosen, AreApart}
+use Rattle.small_world.proofs.Chains.{same_number}
+use Rattle.small_world.proofs.Chosen.{chosen_one}
 use Rattle.java_typing.specs.declared.table.Use.{Use}
 use Rattle.java_typing.specs.declared.table.Use.TheVariants as use_of
 use Rattle.java_typing.specs.Main.{main_method, main_steps, params_of, HasStmt}

@@ -13,9 +13,9 @@ use Rattle.small_programs.specs.Nodes.{stmt_nodes}
 use Rattle.small_programs.specs.Grammar.{node_of, name_at, new_at, local_at, assign_at, IsValue, IsStep, AreSteps, Spells}
 use Rattle.class_world.specs.declared.world.World.{World}
 use Rattle.class_world.specs.declared.world.JavaType.{JavaType}
-use Rattle.class_world.specs.Subclasses.{IsBelow, IsClassTree, direct, through}
-use Rattle.class_world.specs.Members.{AreApart}
-use Rattle.class_world.proofs.Lookups.{chosen_overrides}
+use Rattle.small_world.specs.Subclasses.{IsBelow, IsClassTree, direct, through}
+use Rattle.small_world.specs.Members.{AreApart}
+use Rattle.small_world.proofs.Lookups.{chosen_overrides}
 use Rattle.java_typing.specs.declared.table.Use.{Use}
 use Rattle.java_typing.specs.declared.table.Use.TheVariants as use_of
 use Rattle.java_typing.specs.Main.{main_steps, last_type, before_last, statements, params_of, HasStmt}

@@ -8,7 +8,7 @@ use Rattle.small_programs.specs.Grammar as g
 use Rattle.small_programs.specs.Grammar.{Spells}
 use Rattle.class_world.specs.declared.world.World.{World}
 use Rattle.class_world.specs.declared.world.JavaType.{JavaType}
-use Rattle.class_world.specs.Subclasses.{IsBelow}
+use Rattle.small_world.specs.Subclasses.{IsBelow}
 use Rattle.java_typing.specs.declared.table.Use.{Use}
 use Rattle.java_typing.specs.Main.{first_method, main_method, main_steps, params_of, HasStmt}
 use Rattle.java_typing.specs.WorldOf.{param_type, world_of}

@@ -13,8 +13,8 @@ use Rattle.small_programs.specs.Nodes.{stmt_nodes}
 use Rattle.small_programs.specs.Grammar.{node_of, name_at, name_expr, type_at, new_at, local_at, assign_at, call_at, IsValue, IsStep, AreSteps, Spells}
 use Rattle.class_world.specs.declared.world.World.{World}
 use Rattle.class_world.specs.declared.world.JavaType.TheVariants as ty
-use Rattle.class_world.specs.Subclasses.{Subclass, same, direct, through, IsBelow}
-use Rattle.class_world.proofs.Chains.{same_number}
+use Rattle.small_world.specs.Subclasses.{Subclass, same, direct, through, IsBelow}
+use Rattle.small_world.proofs.Chains.{same_number}
 use Rattle.java_typing.specs.Main.{main_steps, HasStmt}
 use Rattle.java_typing.specs.Typing.{Local, find_local, step_type, scope_after, HasClass, IsStmtTyped, AreTyped}
 use Rattle.constraint_terms.specs.Effect.{expr, type, stmt, stmts, generalized}

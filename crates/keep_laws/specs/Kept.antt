@@ -4,7 +4,7 @@ use Rattle.java_tree.specs.declared.tree.Name.{Name}
 use Rattle.java_tree.specs.declared.tree.Node.{Node}
 use Rattle.java_tree.specs.Plain.{SourceUnit}
 use Rattle.class_world.specs.declared.world.World.{World}
-use Rattle.class_world.specs.Members.{IsChosen}
+use Rattle.small_world.specs.Members.{IsChosen}
 use Rattle.built_in_types.specs.declared.words.Words.{Words}
 use Rattle.decl_table.specs.Program.{Program}
 use Rattle.java_typing.specs.declared.table.Use.{Use}

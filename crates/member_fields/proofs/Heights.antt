@@ -9,7 +9,7 @@ use Rattle.class_world.specs.declared.world.JavaType.TheVariants as ty
 use Rattle.class_world.specs.Inheritance.{IsDirectlyAbove}
 use Rattle.class_world.specs.Sequences.{IsSequence}
 use Rattle.class_world.specs.Sound.{IsSound}
-use Rattle.class_world.specs.Subclasses.{IsDirectSuper}
+use Rattle.class_world.specs.DirectSupers.{IsDirectSuper}
 use Rattle.class_world.proofs.Words.{same_or_other}
 use Rattle.member_fields.specs.Sums.{IsAbove, IsHanded, IsHandedBy}
 use Rattle.member_fields.proofs.Lists.{contains_first, front_cases, none_contained}

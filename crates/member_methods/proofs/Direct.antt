@@ -10,7 +10,7 @@ use Rattle.class_world.specs.declared.world.TypeInfo.{TypeInfo}
 use Rattle.class_world.specs.declared.world.JavaType.{JavaType}
 use Rattle.class_world.specs.declared.world.JavaType.TheVariants as ty
 use Rattle.class_world.specs.Access.{IsInterface}
-use Rattle.class_world.specs.Subclasses.{IsDirectSuper}
+use Rattle.class_world.specs.DirectSupers.{IsDirectSuper}
 use Rattle.class_world.specs.Inheritance.{IsDirectlyAbove}
 use Rattle.class_world.specs.Overriding.{IsSuperinterface}
 use Rattle.class_world.proofs.Forms.{same_class}

@@ -7,7 +7,7 @@ use Rattle.class_world.specs.declared.world.TypeInfo.{TypeInfo}
 use Rattle.class_world.specs.declared.world.MethodInfo.{MethodInfo}
 use Rattle.class_world.specs.declared.world.JavaType.{JavaType}
 use Rattle.class_world.specs.Access.{IsInterface}
-use Rattle.class_world.specs.Subclasses.{IsDirectSuper}
+use Rattle.class_world.specs.DirectSupers.{IsDirectSuper}
 use Rattle.class_world.specs.Subtypes.{Subtype, same, through, declared, object, raw, null, arrays, char_int, int_long, IsUnchecked, Fits}
 use Rattle.class_world.specs.Signatures.{IsSeenWith, IsMethod, HasParams, HaveOneName, HaveOneSignatureIn, AgreeBelow}
 use Rattle.class_world.specs.Inheritance.{IsDirectlyAbove, DeclaresMethod, IsPrivateMethod, IsMemberMethod, Inherits}

@@ -4,7 +4,7 @@ use Rattle.std.specs.List.{Contains}
 use Rattle.class_world.specs.declared.world.World.{World}
 use Rattle.class_world.specs.declared.world.JavaType.{JavaType}
 use Rattle.class_world.specs.declared.world.JavaType.TheVariants as ty
-use Rattle.class_world.specs.Subclasses.{IsDirectSuper}
+use Rattle.class_world.specs.DirectSupers.{IsDirectSuper}
 use Rattle.class_world.specs.Signatures.{HaveOneSignatureIn}
 use Rattle.class_world.specs.Inheritance.{DeclaresMethod, IsMemberMethod, Inherits}
 use Rattle.class_world.specs.Overriding.{IsClass, IsSuperclass}

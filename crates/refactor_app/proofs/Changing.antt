@@ -17,9 +17,9 @@ use Rattle.tree_edit.specs.Literals.{AreLiteralsKept}
 use Rattle.edit_writer.specs.declared.edits.Edit.{Edit}
 use Rattle.edit_writer.specs.Edits.{edited, AreOrdered}
 use Rattle.class_world.specs.declared.world.World.{World}
-use Rattle.class_world.specs.Subclasses.{IsBelow, IsClassTree}
-use Rattle.class_world.specs.Members.{AreApart}
-use Rattle.class_world.proofs.Lookups.{lookups_exist}
+use Rattle.small_world.specs.Subclasses.{IsBelow, IsClassTree}
+use Rattle.small_world.specs.Members.{AreApart}
+use Rattle.small_world.proofs.Lookups.{lookups_exist}
 use Rattle.java_typing.specs.Correspond.{IsProgramOf}
 use Rattle.java_typing.specs.Correspond as running
 use Rattle.run_laws.proofs.Same.{behave_alike}

@@ -13,7 +13,7 @@ use Rattle.edit_writer.specs.declared.places.Place.{Place}
 use Rattle.edit_writer.specs.Places.{place_at}
 use Rattle.edit_writer.proofs.Lines.{low_place}
 use Rattle.class_world.specs.declared.world.World.{World}
-use Rattle.class_world.specs.Subclasses.{IsBelow}
+use Rattle.small_world.specs.Subclasses.{IsBelow}
 use Rattle.java_typing.specs.Main.{before_last}
 use Rattle.java_typing.specs.WorldOf.{world_of, place_of}
 use Rattle.java_typing.specs.Typing.{StepsHold}

@@ -12,7 +12,7 @@ use Rattle.edit_writer.specs.declared.edits.Edit.{Edit}
 use Rattle.edit_writer.specs.Edits.{edited}
 use Rattle.edit_writer.specs.Places.{place_at}
 use Rattle.edit_writer.proofs.Lines.{one_place}
-use Rattle.class_world.specs.Subclasses.{IsBelow}
+use Rattle.small_world.specs.Subclasses.{IsBelow}
 use Rattle.java_typing.specs.Main.{before_last}
 use Rattle.java_typing.specs.WorldOf.{world_of, place_of}
 use Rattle.java_typing.specs.Typing.{step_type}

@@ -4,7 +4,7 @@ use Rattle.std.specs.String.{string_bytes}
 use Rattle.command_words.specs.Names.{IsIdentifier}
 use Rattle.edit_writer.specs.declared.edits.Edit.{Edit}
 use Rattle.class_world.specs.declared.world.World.{World}
-use Rattle.class_world.specs.Subclasses.{IsClassTree}
+use Rattle.small_world.specs.Subclasses.{IsClassTree}
 use Rattle.java_typing.specs.WorldOf.{world_of}
 use Rattle.generalize_type.specs.declared.small.SmallEdit.{SmallEdit}
 use Rattle.generalize_type.specs.Plans.{IsPlan}

@@ -5,7 +5,7 @@ use Rattle.edit_writer.specs.declared.places.Place.{Place}
 use Rattle.edit_writer.specs.declared.edits.Edit.{Edit}
 use Rattle.edit_writer.specs.Places.{place_at}
 use Rattle.edit_writer.specs.Edits.{edited}
-use Rattle.class_world.specs.Subclasses.{IsBelow}
+use Rattle.small_world.specs.Subclasses.{IsBelow}
 use Rattle.java_typing.specs.WorldOf.{world_of}
 use Rattle.java_typing.specs.Correspond.{IsProgramOf}
 use Rattle.java_typing.specs.Correspond as running

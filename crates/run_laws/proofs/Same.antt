@@ -3,10 +3,10 @@ use Rattle.std.proofs.Common.{◌≡◌, ℕ, zero, suc, ◌+◌, inl, inr, List
 use Rattle.java_tree.specs.Plain as t
 use Rattle.java_tree.specs.Plain.{Expr, Exprs, Param, Stmt, Stmts, Member, TypeDecl, SourceUnit}
 use Rattle.class_world.specs.declared.world.World.{World}
-use Rattle.class_world.specs.Subclasses.{IsClassTree}
-use Rattle.class_world.specs.Members.{AreApart}
-use Rattle.class_world.specs.Lookup.{AreLookups}
-use Rattle.class_world.proofs.Lookups.{one_lookup, lookup_overridden}
+use Rattle.small_world.specs.Subclasses.{IsClassTree}
+use Rattle.small_world.specs.Members.{AreApart}
+use Rattle.small_world.specs.Lookup.{AreLookups}
+use Rattle.small_world.proofs.Lookups.{one_lookup, lookup_overridden}
 use Rattle.java_typing.specs.declared.table.Use.{Use}
 use Rattle.java_typing.specs.declared.table.Use.TheVariants as use_of
 use Rattle.java_typing.specs.Correspond.{Program, Correspond, UsesAlike, ExprAlike, ExprsAlike, StmtAlike, StmtsAlike, ParamsAlike, MemberAlike, MembersAlike, TypesAlike}

@@ -1,8 +1,8 @@
 //! Laws of the meaning: programs that correspond behave alike.
 #![tactic(auto)]
 
-ghost use Rattle.class_world.specs.Subclasses.{IsClassTree};
-ghost use Rattle.class_world.specs.Members.{AreApart};
+ghost use Rattle.small_world.specs.Subclasses.{IsClassTree};
+ghost use Rattle.small_world.specs.Members.{AreApart};
 ghost use Rattle.java_typing.specs.Correspond.{Program, Correspond};
 ghost use Rattle.java_meaning.specs.Alike.{BehaveAlike, RunsGrow};
 

@@ -3,11 +3,11 @@ use Rattle.std.proofs.lemmas.List.{length-map}
 use Rattle.java_tree.specs.Plain.{SourceUnit}
 use Rattle.java_tree.specs.View.{unit_plain, decl_plain}
 use Rattle.class_world.specs.declared.world.World.{World}
-use Rattle.class_world.specs.Members.{AreApart}
-use Rattle.class_world.specs.Subclasses.{IsClassTree}
-use Rattle.class_world.specs.Tables.{Indexes}
-use Rattle.class_world.specs.Names.{ListsMethods}
-use Rattle.class_world.proofs.Chains.{none_below_itself}
+use Rattle.small_world.specs.Members.{AreApart}
+use Rattle.small_world.specs.Subclasses.{IsClassTree}
+use Rattle.small_world.specs.Tables.{Indexes}
+use Rattle.small_world.specs.Names.{ListsMethods}
+use Rattle.small_world.proofs.Chains.{none_below_itself}
 use Rattle.java_typing.specs.WorldOf.{world_of}
 use Rattle.java_typing.specs.Declarations.{DeclarationsHold, TypesDiffer, SupersAreThere, NamesAreFree}
 use Rattle.decl_table.specs.Classes.{Numbers, HaveOwnNames}

@@ -1,6 +1,6 @@
 use Rattle.std.proofs.Common.{Ok, ap, ◌∙◌}
 use Rattle.java_tree.specs.Plain.{SourceUnit}
-use Rattle.class_world.specs.Members.{AreApart}
+use Rattle.small_world.specs.Members.{AreApart}
 use Rattle.java_typing.specs.Declarations.{NamesAreFree}
 use Rattle.decl_table.proofs.Found.{found_where, found_always}
 use Rattle.decl_table.proofs.small.index_methods.Goals as goal

@@ -1,5 +1,5 @@
 use Rattle.std.proofs.Common.{◌≡◌, ◌∙◌, length, arith}
-use Rattle.class_world.proofs.Chains.{lowest}
+use Rattle.small_world.proofs.Chains.{lowest}
 use Rattle.generalize_type.proofs.NameFlags.{flagged_first, flagged_up, flagged_all}
 use Rattle.generalize_type.proofs.flags.flag_above.Goals as goal
 

@@ -1,5 +1,5 @@
 use Rattle.std.proofs.Common.{◌+◌, ◌≤◌, length}
-use Rattle.class_world.specs.Subclasses.{IsClassTree}
+use Rattle.small_world.specs.Subclasses.{IsClassTree}
 use Rattle.generalize_type.proofs.NameFlags.{HasFlagged}
 use Rattle.generalize_type.proofs.flags.flag_above.Given as goal
 

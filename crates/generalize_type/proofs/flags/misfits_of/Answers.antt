@@ -1,7 +1,7 @@
 use Rattle.std.proofs.Common.{◌≡◌, ◌∙◌, false, length, replicate, ap, subst}
 use Rattle.std.proofs.lemmas.List.{length-replicate}
 use Rattle.java_tree.specs.View.{unit_plain}
-use Rattle.class_world.proofs.Flags.{written_back}
+use Rattle.small_world.proofs.Flags.{written_back}
 use Rattle.generalize_type.specs.Fits.{FlagsAbove, misfits_after}
 use Rattle.generalize_type.specs.Steps.{locals_in}
 use Rattle.generalize_type.proofs.Misfits.{are_misfits}

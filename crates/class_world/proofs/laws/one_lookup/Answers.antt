@@ -1,5 +1,0 @@
-use Rattle.class_world.proofs.Lookups.{one_lookup}
-use Rattle.class_world.proofs.laws.one_lookup.Goals as goal
-
-pub returns : goal.returns
-returns c = one_lookup

@@ -1,0 +1,5 @@
+pub mod Chains
+pub mod Tables
+pub mod Chosen
+pub mod Flags
+pub mod Lookups

@@ -1,0 +1,5 @@
+pub mod Subclasses
+pub mod Members
+pub mod Lookup
+pub mod Tables
+pub mod Names

@@ -1,0 +1,17 @@
+-- What is in scope.
+use Rattle.std.specs.Prelude.{ℕ, List, [], ◌∷◌, length, Option, Some, None, ◌==◌, if◌then◌else◌}
+use Rattle.java_tree.specs.declared.tree.Name.{Name}
+use Rattle.class_world.specs.declared.world.JavaType.{JavaType}
+use Rattle.class_world.specs.declared.world.JavaType.TheVariants as ty
+use Rattle.class_world.specs.Types.{with_own}
+use Rattle.type_facts.specs.declared.scope.LocalVar.{LocalVar}
+use Rattle.type_facts.specs.declared.scope.Place.{Place}
+
+-- the local or parameter of a name
+abbrev pub find_local : List LocalVar → Name → Option LocalVar
+find_local [] x = None
+find_local (l ∷ ls) x = if l.name.0 == x.0 then Some l else find_local ls x
+
+-- the type of `this`: the class with its own variables
+abbrev pub own_type : Place → JavaType
+own_type g = with_own g.class (length g.vars)

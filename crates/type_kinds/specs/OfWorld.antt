@@ -1,0 +1,12 @@
+-- Relations between types of the world; types that are not of it are in none.
+use Rattle.class_world.specs.declared.world.World.{World}
+use Rattle.class_world.specs.declared.world.JavaType.{JavaType}
+use Rattle.class_world.specs.declared.world.JavaType.TheVariants as ty
+use Rattle.class_world.specs.Sound.{IsOfWorld}
+
+abbrev pub AreBoth : World → JavaType → JavaType → Type 0
+AreBoth w s t = IsOfWorld w s × IsOfWorld w t
+
+-- a type of the world that is not that of null
+abbrev pub HasSupers : World → JavaType → Type 0
+HasSupers w t = IsOfWorld w t × (t ≡ ty.Null → ⊥)
