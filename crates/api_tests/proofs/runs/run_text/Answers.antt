@@ -1,7 +1,7 @@
 use Rattle.std.proofs.Common.{sym, subst}
 use Rattle.java_tree.specs.Names.{IsTable, built_in_names}
 use Rattle.java_tree.proofs.Tables.{built_in_table, front_of_front}
-use Rattle.app_tests.proofs.runs.run_text.Goals as goal
+use Rattle.api_tests.proofs.runs.run_text.Goals as goal
 
 pub is_small-requires-clause-table : goal.is_small-requires-clause-table
 is_small-requires-clause-table g c =
