@@ -3,7 +3,7 @@
 //! where C has 5 and 6.
 
 use check_decl::check_small;
-use decl_table::build_small;
+use small_decls::build_small;
 use java_lexer::lex;
 use java_meaning::{End, Run, run_small};
 use java_parse_decl::parse_unit;

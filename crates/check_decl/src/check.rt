@@ -13,7 +13,7 @@ ghost use Rattle.check_decl.specs.Holds.{at_start, AllHold, AreOf, Decides, IsCl
 
 use crate::scope::{Binding, Scope};
 use small_world::{find_method, is_sub_class};
-use decl_table::Declared;
+use small_decls::Declared;
 use java_tree::NoMemory;
 use java_tree::tree::{Expr, ExprForm, Name, SourceUnit, Stmt, StmtForm, TypeExpr, Var};
 use java_typing::{main_param, main_steps};
