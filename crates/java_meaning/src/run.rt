@@ -19,11 +19,11 @@ use crate::bodies::main_number;
 use crate::machine::{Locals, Machine};
 use crate::steps::{LocalCall, Source, Store, call_of, store_of};
 use crate::tables::Tables;
-use small_world::find_method;
-use small_decls::Declared;
 use java_tree::tree::{Name, SourceUnit, Stmt};
 use java_tree::{Items, NoMemory};
 use java_typing::main_steps;
+use small_decls::Declared;
+use small_world::find_method;
 use std::alloc::Global;
 
 /// How a run ends.

@@ -7,8 +7,8 @@ ghost use Rattle.java_tree.specs.View.{plain, plains, stmt_plain, var_plain};
 ghost use Rattle.small_decls.specs.Classes.{Numbers};
 ghost use Rattle.java_meaning.specs.Steps as spec;
 
-use small_decls::ClassTable;
 use java_tree::tree::{Expr, ExprForm, Name, Stmt, StmtForm, Var};
+use small_decls::ClassTable;
 
 /// The object that a local gets: a new one of a class, by number, or the one that a local holds.
 #[derive(Clone, Copy)]

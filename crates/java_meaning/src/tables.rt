@@ -12,9 +12,9 @@ ghost use Rattle.java_meaning.specs.Runs.{class_constructor, AreReady, AreTables
 
 use crate::bodies::bodies_of;
 use class_world::World;
-use small_decls::Declared;
 use java_tree::NoMemory;
 use java_tree::tree::{SourceUnit, Stmt};
+use small_decls::Declared;
 use std::alloc::Global;
 
 /// The declared types and methods; the first constructor without parameters of each class; and the statements of each method.

@@ -18,9 +18,9 @@ use crate::rules::{are_few, names_are_free, none_is_java};
 use crate::tree::is_tree;
 use crate::types::type_infos;
 use class_world::World;
-use small_world::MethodTable;
 use java_tree::tree::SourceUnit;
 use java_tree::{Items, Names, NoMemory};
+use small_world::MethodTable;
 use std::alloc::Global;
 
 /// The declared types and methods of a file, and tables of them by name.
