@@ -3,11 +3,11 @@
 //! where C has 5 and 6.
 
 use check_decl::check_small;
-use decl_table::build_small;
 use java_lexer::lex;
 use java_meaning::{End, Run, run_small};
 use java_parse_decl::parse_unit;
 use java_tree::Names;
+use small_decls::build_small;
 use small_programs::is_small;
 use std::alloc::Global;
 use std::process::Abort;

@@ -29,8 +29,7 @@ use Rattle.program_world.proofs.Supers.{argument_null}
 use Rattle.decl_table.specs.Bases.{AreBases}
 use Rattle.decl_table.specs.Program.{built, SameDeclared}
 use Rattle.decl_table.proofs.Bases.{built_in_bases}
-use Rattle.decl_table.proofs.BuiltInLists.{all_at}
-use Rattle.decl_table.proofs.Facts.{one_there}
+use Rattle.decl_table.proofs.Facts.{all_at, one_there}
 use Rattle.decl_table.proofs.Fitting.{HaveParams, place_fits, get_there}
 use Rattle.decl_table.proofs.Listed.{get_either, get_front, get_behind, get_mapped, get_flat, map_some, none_there}
 use Rattle.decl_table.proofs.Supers.{info_for, same_params}
