@@ -159,7 +159,7 @@ built_in_parts w n known =
     ∷ (int ∷ int ∷ [], Some text) ∷ (text ∷ [], Some int) ∷ (object ∷ [], Some boolean)
     ∷ ([], Some int) ∷ ([], Some text)
     ∷ (prints ++ prints ++ ([], None) ∷ throwables (4 ∷ []) ++ ([], Some text)
-    ∷ ([], Some text) ∷ throwables (5 ∷ 6 ∷ 7 ∷ 8 ∷ 9 ∷ 10 ∷ 11 ∷ 12 ∷ 13 ∷ 14 ∷ 15 ∷ []))
+    ∷ ([], Some text) ∷ throwables (5 ∷ 6 ∷ 7 ∷ 8 ∷ 9 ∷ 10 ∷ 11 ∷ 12 ∷ 13 ∷ 14 ∷ 15 ∷ 16 ∷ 17 ∷ 18 ∷ []))
   where
     object : Over w n
     object = (ty.Class 0 [], bare_over w n 0 (known 0 (omega arith)))
