@@ -230,7 +230,7 @@ module _ (names : List (List ℕ)) (text : List ℕ) (u : SourceUnit) (w : World
       elim (called_by u c info (subst (λ (w : World). slice_get w.types c ≡ Some info) given.world e)) [
         | inl low ↦
             let last = given.table.built_in 18 _ refl in
-            let within = slice_get_within names 15 _ last in
+            let within = slice_get_within names 18 _ last in
             omega arith
         | inr h ↦
             let decl : slice_get given.spells.types h.0 ≡ Some h.1 = subst (λ (u : SourceUnit). slice_get u.types h.0 ≡ Some h.1) given.spells.tree h.2 in
