@@ -20,7 +20,7 @@ IsOpenClass w c = (info : TypeInfo) × (slice_get w.types c ≡ Some info) × (i
 pub data Castable (w : World) : JavaType → JavaType → Type 0 where
   down : {s t : JavaType} → Subtype w (erased s) (erased t) → Castable w s t
   up : {s t : JavaType} → Subtype w (erased t) (erased s) → Castable w s t
-  interfaces : {c d : ℕ} {xs ys : List JavaType} → IsInterface w c → IsInterface w d → Castable w (ty.Class c xs) (ty.Class d ys)
-  to_interface : {c d : ℕ} {xs ys : List JavaType} → IsOpenClass w c → IsInterface w d → Castable w (ty.Class c xs) (ty.Class d ys)
-  from_interface : {c d : ℕ} {xs ys : List JavaType} → IsInterface w c → IsOpenClass w d → Castable w (ty.Class c xs) (ty.Class d ys)
+  interfaces : {c d : ℕ} (xs ys : List JavaType) → IsInterface w c → IsInterface w d → Castable w (ty.Class c xs) (ty.Class d ys)
+  to_interface : {c d : ℕ} (xs ys : List JavaType) → IsOpenClass w c → IsInterface w d → Castable w (ty.Class c xs) (ty.Class d ys)
+  from_interface : {c d : ℕ} (xs ys : List JavaType) → IsInterface w c → IsOpenClass w d → Castable w (ty.Class c xs) (ty.Class d ys)
   arrays : {s t : JavaType} → IsReference s → IsReference t → Castable w s t → Castable w (ty.Array s) (ty.Array t)
