@@ -1,0 +1,2 @@
+//! The check of expressions: the core of each, or the first rule that it breaks (JLS 3rd edition, chapter 15).
+#![tactic(auto)]

@@ -1,0 +1,4 @@
+pub mod Constants
+pub mod Operators
+pub mod Uses
+pub mod Writtens
