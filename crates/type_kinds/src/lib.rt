@@ -3,3 +3,4 @@
 
 pub mod conversions;
 pub mod kinds;
+pub mod of_world;
