@@ -1,9 +1,8 @@
 -- Types of a world, by their parts.
-use Rattle.std.proofs.Common.{◌≡◌, ℕ, ◌+◌, ◌≤◌, zero, suc, List, [], ◌∷◌, Some, ◌⊎◌, ◌↔◌, Bool, true, false, refl, sym, ◌∙◌, subst, length, arith}
+use Rattle.std.proofs.Common.{◌≡◌, ℕ, ◌+◌, zero, suc, List, [], ◌∷◌, Some, ◌↔◌, Bool, refl, sym, ◌∙◌, subst, arith}
 use Rattle.std.specs.Prelude.{slice_get, IsTrue}
 use Rattle.java_tree.specs.declared.tree.Primitive.{Primitive}
 use Rattle.class_world.specs.declared.world.World.{World}
-use Rattle.class_world.specs.declared.world.TypeInfo.{TypeInfo}
 use Rattle.class_world.specs.declared.world.JavaType.{JavaType}
 use Rattle.class_world.specs.declared.world.JavaType.TheVariants as ty
 use Rattle.class_world.specs.Types.{IsReference, AreReferences, IsTypeOver, a_primitive, the_null, a_class, a_variable, an_array}

@@ -1,5 +1,5 @@
 -- Kinds of types, and the types that operators work on (JLS 4.2, 4.3, 5.6).
-use Rattle.std.specs.Prelude.{ℕ, Bool, true, false, ◌&&◌, ◌||◌, not, List, [], ◌∷◌, Option, Some, None, is_some, ◌==◌, if◌then◌else◌}
+use Rattle.std.specs.Prelude.{ℕ, Bool, true, false, ◌||◌, not, List, [], ◌∷◌, Option, Some, None, is_some, ◌==◌, if◌then◌else◌}
 use Rattle.std.specs.List.{list_any}
 use Rattle.java_tree.specs.declared.tree.Mod.{Mod}
 use Rattle.java_tree.specs.declared.tree.Mod.TheVariants as mods

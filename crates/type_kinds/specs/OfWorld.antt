@@ -27,3 +27,7 @@ HasSupers w t = IsOfWorld w t × (t ≡ ty.Null → ⊥)
 -- the supertype of t with the class g, none where t is null or not of the world
 abbrev pub SuperIs : World → JavaType → ℕ → Option JavaType → Type 0
 SuperIs w t g r = (HasSupers w t → IsSuperAs w t g r) × ((HasSupers w t → ⊥) → r ≡ None)
+
+-- the same, with which of the two it is
+abbrev pub SuperTold : World → JavaType → ℕ → Option JavaType → Type 0
+SuperTold w t g r = (HasSupers w t × IsSuperAs w t g r) ⊎ ((HasSupers w t → ⊥) × (r ≡ None))

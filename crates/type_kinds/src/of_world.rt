@@ -5,7 +5,7 @@ ghost use Rattle.class_world.specs.Types.{IsReference};
 ghost use Rattle.class_world.specs.Subtypes.{Fits, IsUnchecked, Subtype};
 ghost use Rattle.class_world.specs.Sound.{IsOfWorld, IsSound};
 ghost use Rattle.class_world.specs.declared.world.JavaType.TheVariants as ty;
-ghost use Rattle.type_kinds.specs.OfWorld.{AreArgs, AreBoth, HasSupers, SuperIs, Takes};
+ghost use Rattle.type_kinds.specs.OfWorld.{AreArgs, AreBoth, HasSupers, SuperIs, SuperTold, Takes};
 
 use class_world::{JavaType, World, fits, is_sub, is_unchecked, super_as};
 use java_tree::NoMemory;
@@ -69,7 +69,7 @@ fn are_args(w: &World, xs: &[JavaType]) -> bool
     }
 }
 
-fn are_both(w: &World, s: &JavaType, t: &JavaType) -> bool
+pub(crate) fn are_both(w: &World, s: &JavaType, t: &JavaType) -> bool
     ensures { IsTrue result ↔ AreBoth w.now s.now t.now }
 {
     is_of_world(w, s) && is_of_world(w, t)
@@ -125,7 +125,8 @@ pub fn super_of(
     g: u32,
 ) -> Result<Option<JavaType>, NoMemory>
     requires { IsSound w.now }
-    ensures { IfOk result (λ r. SuperIs w.now t.now g r) }
+    ensures is { IfOk result (λ r. SuperIs w.now t.now g r) }
+    ensures told { IfOk result (λ r. SuperTold w.now t.now g r) }
 {
     if has_supers(w, t) {
         super_as(alloc, w, t, g)
