@@ -26,6 +26,10 @@ abbrev pub params_of : Option TypeInfo → ℕ
 params_of None = 0
 params_of (Some info) = info.params
 
+-- how many type parameters the class of this number declares
+abbrev pub params_at : World → ℕ → ℕ
+params_at w c = params_of (slice_get w.types c)
+
 -- ---- declared types, as a type sees them
 
 abbrev pub through_form : JavaType-F JavaType → (params : ℕ) → Seen
@@ -41,7 +45,7 @@ through (Some t) n = through_form (out-JavaType t) n
 -- How t sees what the class o declares. A static member is seen as it is declared.
 abbrev pub seen_by : Facts → JavaType → (o : ℕ) → (is_static : Bool) → Seen
 seen_by f t o true = seen.Put []
-seen_by f t o false = through (f.super_as t o) (params_of (slice_get f.world.types o))
+seen_by f t o false = through (f.super_as t o) (params_at f.world o)
 
 abbrev pub as_seen : Seen → JavaType → JavaType
 as_seen seen.Erased t = erased t

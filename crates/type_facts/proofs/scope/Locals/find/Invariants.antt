@@ -1,0 +1,6 @@
+use Rattle.std.proofs.Common.{◌≡◌, drop}
+use Rattle.type_facts.specs.Scopes.{find_local}
+use Rattle.type_facts.proofs.scope.Locals.find.Given as goal
+
+abbrev pub invariant-loop-local : goal.invariant-loop-local
+invariant-loop-local l = find_local (drop l.local-index l.self) l.name ≡ find_local l.self l.name
