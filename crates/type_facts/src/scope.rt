@@ -55,6 +55,13 @@ impl Locals {
         self.items.len()
     }
 
+    /// The locals in scope, the last declared last.
+    pub fn as_slice(&self) -> &[LocalVar]
+        ensures { result.now ≡ self.now }
+    {
+        self.items.as_slice()
+    }
+
     /// The local or parameter of a name (JLS 6.5.6.1).
     pub fn find(&self, name: Name) -> Option<&LocalVar>
         ensures { option_copied result ≡ spec.find_local self.now name }
