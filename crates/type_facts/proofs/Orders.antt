@@ -61,10 +61,10 @@ rises xs up i j x y at_x at_y lt =
     let second : get_or xs j 0 ≡ y = get_or_from_slice_get xs j y 0 at_y in
     omega (arith, low, first, second)
 
-at_contains : (xs : List ℕ) (x : ℕ) → Has xs x → Contains xs x
+pub at_contains : (xs : List ℕ) (x : ℕ) → Has xs x → Contains xs x
 at_contains xs x h = (h.0, slice_get_within xs h.0 x h.1, get_or_from_slice_get xs h.0 x x h.1)
 
-contains_at : (xs : List ℕ) (x : ℕ) → Contains xs x → Has xs x
+pub contains_at : (xs : List ℕ) (x : ℕ) → Contains xs x → Has xs x
 contains_at xs x h = (h.0, slice_get-get_or xs h.0 x h.1 ∙ ap Some h.2)
 
 heads : (x y : ℕ) (xs ys : List ℕ) → Rises (x ∷ xs) → Rises (y ∷ ys) → (i : ℕ) → slice_get (y ∷ ys) i ≡ Some x → (j : ℕ) → slice_get (x ∷ xs) j ≡ Some y → x ≡ y

@@ -2,6 +2,7 @@
 #![tactic(auto)]
 
 pub mod asks;
+pub mod laws;
 pub mod questions;
 pub mod scope;
 pub mod seen;

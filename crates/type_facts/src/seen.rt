@@ -46,11 +46,13 @@ fn through(alloc: Global, t: Option<JavaType>, params: u32) -> Seen
 {
     match t {
         Some(JavaType::Class(_, args)) => {
-            if args.is_empty() && 0 < params {
-                Seen::Erased
-            } else {
-                Seen::Put(args)
+            if args.is_empty() {
+                if 0 < params {
+                    return Seen::Erased;
+                }
+                return Seen::Put(args);
             }
+            Seen::Put(args)
         }
         _ => Seen::Put(Items::new(alloc)),
     }
