@@ -62,16 +62,17 @@ impl Locals {
         self.items.as_slice()
     }
 
-    /// The local or parameter of a name (JLS 6.5.6.1).
+    /// The local or parameter of a name (JLS 6.5.6.1): the one that was declared last.
     pub fn find(&self, name: Name) -> Option<&LocalVar>
         ensures { option_copied result ≡ spec.find_local self.now name }
     {
+        let mut found = None;
         for local in &self.items {
             if local.name.0 == name.0 {
-                return Some(local);
+                found = Some(local);
             }
         }
-        None
+        found
     }
 
     pub fn push(&mut self, local: LocalVar) -> Result<(), AllocError>
