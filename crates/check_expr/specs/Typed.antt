@@ -59,8 +59,11 @@ dotted_call f g u n (AType m c) a x xs = and_then xs (λ xs. called f g u n (OfT
 dotted_call f g u n (Unknown m) a x xs = Broken m.id 26
 
 -- T35
+abbrev pub super_called : Facts → Place → Use → Node → Name → List p.Expr → Checked p.Expr
+super_called f g u n x xs = with_some (superclass f.world g.class) n.id 35 (λ t. called f g u n (OfSuper t) x xs)
+
 abbrev pub super_call : Facts → Place → Use → Node → Name → Checked (List p.Expr) → Checked p.Expr
-super_call f g u n x xs = and_then xs (λ xs. under (not g.is_static) n.id 35 (with_some (superclass f.world g.class) n.id 35 (λ t. called f g u n (OfSuper t) x xs)))
+super_call f g u n x xs = and_then xs (λ xs. under (not g.is_static) n.id 35 (super_called f g u n x xs))
 
 -- T38
 abbrev pub is_concrete : Option TypeInfo → Bool
@@ -79,9 +82,11 @@ abbrev pub new_of : Facts → Place → Node → Checked p.Written → Checked (
 new_of f g n a xs = and_then a (λ w. and_then xs (λ xs. created f g n w xs))
 
 -- T40; `extra` levels stand behind those that have a size
+abbrev pub array_made : Node → p.Written → (extra : ℕ) → List p.Expr → Checked p.Expr
+array_made n w extra xs = under (is_creatable (type_said w)) n.id 40 (under (are_short xs) n.id 40 (Fine (p.At n (arrays (length xs + extra) (type_said w)) (p.NewArray w (row (sizes xs))))))
+
 abbrev pub array_of : Node → Checked p.Written → (extra : ℕ) → Checked (List p.Expr) → Checked p.Expr
-array_of n a extra xs = and_then a (λ w. and_then xs (λ xs. under (is_creatable (type_said w)) n.id 40 (under (are_short xs) n.id 40
-    (Fine (p.At n (arrays (length xs + extra) (type_said w)) (p.NewArray w (row (sizes xs))))))))
+array_of n a extra xs = and_then a (λ w. and_then xs (λ xs. array_made n w extra xs))
 
 -- T41 reads the type alone.
 abbrev pub filled_of : Node → p.Written → Checked p.Expr → Checked p.Expr
@@ -139,7 +144,7 @@ module _ (f : Facts) (g : Place) (ls : List LocalVar) where
     typed u (t.SuperMethod n x es) = super_call f g u n x (typeds es)
     typed u (t.New n x es) = new_of f g n (written f g x) (typeds es)
     typed u (t.NewArray n x es k) = array_of n (written f g x) k (typeds es)
-    typed u (t.NewFilled n x e) = and_then (written f g x) (λ w. filled_of n w (initial (type_said w) e))
+    typed u (t.NewFilled n x e) = filled_by n x e
     typed u (t.Items n es) = Broken n.id 8
     typed u (t.Paren n e) = paren n (typed (within u) e)
     typed u (t.Unary n op e) = unary n op (under_sign op e)
@@ -155,6 +160,10 @@ module _ (f : Facts) (g : Place) (ls : List LocalVar) where
     pub call : Use → Node → t.MaybeExpr → Name → Checked (List p.Expr) → Checked p.Expr
     call u n t.NoExpr x xs = call_here f g u n x xs
     call u n (t.AnExpr e) x xs = dotted_call f g u n (dotted f g ls e) (typed use_.Read e) x xs
+
+    -- an array that is created of its items
+    pub filled_by : Node → t.TypeExpr → t.Expr → Checked p.Expr
+    filled_by n x e = and_then (written f g x) (λ w. filled_of n w (initial (type_said w) e))
 
     -- the operand of a sign
     pub under_sign : UnOp → t.Expr → Checked p.Expr
