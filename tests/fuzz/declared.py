@@ -43,7 +43,6 @@ class Variable:
     name: str
     dims: int
     has_value: bool
-    is_literal: bool
 
 
 @dataclass(eq=False)
@@ -276,19 +275,11 @@ class Reader(trees.Reader):
         dims = self.brackets()
         holder.is_element = holder.is_element or dims > 0
         has_value = self.takes("=")
-        begin = self.next
         if has_value:
             self.initialiser()
         if found is not None:
-            found.append(Variable(at, name, dims, has_value, self.is_literal(begin)))
+            found.append(Variable(at, name, dims, has_value))
         return 1
-
-    def is_literal(self, begin):
-        """Whether the tokens since `begin` are a literal, with a minus or not."""
-        sorts = self.sorts[begin:self.next]
-        if sorts[:1] == ["-"]:
-            sorts = sorts[1:]
-        return len(sorts) == 1 and (sorts[0] in ("Int", "Long") or sorts[0] in trees.LITERALS)
 
     # Written types.
 

@@ -1,4 +1,4 @@
-"""The rules on declarations: S10 to S20, S22 and S23, L6, L7, DR1 to DR20. They are read over all files of a program.
+"""The rules on declarations: S10 to S15, S17 to S20, S22 and S23, L6, L7, DR1 to DR20. They are read over all files of a program.
 
 `first_broken` gives the rule that is named, with the file and the byte where it stands. Types are plain tuples here:
 
@@ -38,6 +38,7 @@ EXCEPTIONS = [
     ("RuntimeException", "ArithmeticException NullPointerException ClassCastException ArrayStoreException "
                          "NegativeArraySizeException IndexOutOfBoundsException"),
     ("IndexOutOfBoundsException", "ArrayIndexOutOfBoundsException StringIndexOutOfBoundsException"),
+    ("Error", "LinkageError"), ("LinkageError", "ExceptionInInitializerError NoClassDefFoundError"),
 ]
 
 
@@ -441,11 +442,7 @@ def profile_rules_of_member(of, member):
     file = of.file
     if not file.is_user and "protected" in member.mods:
         yield found(file, member.at, MEMBER, "S18")
-    if isinstance(member, declared.FieldMember):
-        for each in member.vars:
-            if (of.is_interface or is_static(member)) and each.has_value and not each.is_literal:
-                yield found(file, each.at, PART, "S16")
-    elif not member.is_constructor and is_left_out(member):
+    if not isinstance(member, declared.FieldMember) and not member.is_constructor and is_left_out(member):
         yield found(file, member.at, MEMBER, "S19")
 
 

@@ -259,6 +259,7 @@ BUILT_IN_NAMES = """
     Object String System PrintStream Throwable Exception Error RuntimeException ArithmeticException
     NullPointerException ClassCastException ArrayStoreException NegativeArraySizeException
     IndexOutOfBoundsException ArrayIndexOutOfBoundsException StringIndexOutOfBoundsException
+    LinkageError ExceptionInInitializerError NoClassDefFoundError
     """.split()
 TAKEN_BY_TYPES = set(BUILT_IN_NAMES) | {"java"}
 METHOD_NAMES = "m n k on off area draw m1 m2 _m $m println out System String java A equals length wait1 notifyA".split()

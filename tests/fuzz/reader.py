@@ -29,6 +29,7 @@ BUILT_IN_TYPES = frozenset("""
     Object String System PrintStream Throwable Exception Error RuntimeException ArithmeticException
     NullPointerException ClassCastException ArrayStoreException NegativeArraySizeException
     IndexOutOfBoundsException ArrayIndexOutOfBoundsException StringIndexOutOfBoundsException
+    LinkageError ExceptionInInitializerError NoClassDefFoundError
     """.split())
 
 # Both built-in packages, java.lang and java.io, begin with this identifier.

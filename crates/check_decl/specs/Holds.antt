@@ -8,8 +8,8 @@ use Rattle.small_world.specs.Tables.{Indexes}
 use Rattle.java_typing.specs.Main.{main_method, params_of}
 use Rattle.java_typing.specs.WorldOf.{world_of}
 use Rattle.java_typing.specs.Typing.{Local, HasClass, IsPerformed, IsStmtTyped, AreTyped, scope_after, params_in}
-use Rattle.decl_table.specs.Classes.{Numbers}
-use Rattle.decl_table.specs.declared.small.Declared.{Declared}
+use Rattle.small_decls.specs.Classes.{Numbers}
+use Rattle.small_decls.specs.declared.small.Declared.{Declared}
 use Rattle.check_decl.specs.declared.scope.Scope.{Scope}
 use Rattle.check_decl.specs.Scopes.{Binds}
 

@@ -12,11 +12,11 @@ ghost use Rattle.check_decl.specs.Scopes.{Binds};
 ghost use Rattle.check_decl.specs.Holds.{at_start, AllHold, AreOf, Decides, IsClassOf, IsReady, PerformHolds};
 
 use crate::scope::{Binding, Scope};
-use small_world::{find_method, is_sub_class};
-use decl_table::Declared;
 use java_tree::NoMemory;
 use java_tree::tree::{Expr, ExprForm, Name, SourceUnit, Stmt, StmtForm, TypeExpr, Var};
 use java_typing::{main_param, main_steps};
+use small_decls::Declared;
+use small_world::{find_method, is_sub_class};
 use std::alloc::Global;
 
 /// The class of the object that a name or a creation gives (T25, T38).

@@ -13,7 +13,7 @@ use Rattle.java_tree.specs.declared.tree.Mod.{Mod}
 use Rattle.java_tree.specs.declared.tree.Mod.TheVariants as mods
 use Rattle.java_tree.specs.Plain as t
 use Rattle.decl_rules.specs.Parts.{head_of, dims_of}
-use Rattle.decl_rules.specs.PlainRules.{NamesGeneric, is_signed_literal, left_out_names, IsLeftOut}
+use Rattle.decl_rules.specs.PlainRules.{NamesGeneric, left_out_names, IsLeftOut}
 use Rattle.decl_rules.specs.Walk.{names_generic, is_nested}
 use Rattle.decl_rules.specs.Looks as spec
 

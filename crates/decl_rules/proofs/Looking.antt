@@ -9,14 +9,14 @@ use Rattle.java_tree.specs.Plain as t
 use Rattle.rule_order.specs.declared.Breach.{Breach}
 use Rattle.rule_order.specs.First.{Breaches, Either, IsFirst}
 use Rattle.rule_order.specs.Noted.{At, SomeOf}
-use Rattle.decl_rules.specs.PlainRules.{TypeBreaks, SetsStatic, IsProtected, TakesName, MemberBreaks, WrittenBreaks, BreaksPlain, IsStatic, is_signed_literal}
+use Rattle.decl_rules.specs.PlainRules.{TypeBreaks, IsProtected, TakesName, MemberBreaks, WrittenBreaks, BreaksPlain}
 use Rattle.rule_order.specs.Noted.{Adds, noted}
 use Rattle.decl_rules.specs.Walk as walk
 use Rattle.decl_rules.specs.Looks as spec
 use Rattle.rule_order.proofs.Adding.{adds_nothing, adds_both, adds_noted, first_from_none}
 use Rattle.rule_order.proofs.Lists.{some_none, some_more}
 use Rattle.decl_rules.proofs.Walking.{file_adds}
-use Rattle.decl_rules.proofs.Deciding.{truth, falsity, some_decides, has_decides, set_decides, takes_decides}
+use Rattle.decl_rules.proofs.Deciding.{truth, falsity, some_decides, has_decides, takes_decides}
 
 protected_decides : (user : Bool) (ms : List Mod) → Decides (not user && spec.has mods.Protected ms) ((user ≡ false) × Contains ms mods.Protected)
 protected_decides user ms = Decides-and (not user) (spec.has mods.Protected ms) (falsity user) (has_decides mods.Protected ms)

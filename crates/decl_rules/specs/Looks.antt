@@ -5,8 +5,8 @@ use Rattle.std.specs.Str.{bytes_eq}
 use Rattle.java_tree.specs.declared.tree.Mod.{Mod}
 use Rattle.java_tree.specs.declared.tree.Mod.TheVariants as mods
 use Rattle.java_tree.specs.Plain as t
-use Rattle.java_tree.specs.Plain.{TypeDecl, MethodDecl, Member, Var, Expr}
-use Rattle.decl_rules.specs.PlainRules.{is_signed_literal, left_out_names}
+use Rattle.java_tree.specs.Plain.{TypeDecl, MethodDecl, Member}
+use Rattle.decl_rules.specs.PlainRules.{left_out_names}
 use Rattle.rule_order.specs.Noted.{noted}
 use Rattle.decl_rules.specs.Walk.{Walk}
 

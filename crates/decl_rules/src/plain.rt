@@ -1,10 +1,9 @@
 //! The S rules on what a file writes, by what it writes and by which names mean generic types in it.
 
-ghost use Rattle.std.specs.Prelude.{◌≡◌, Bool, map, slice_get, option_copied, not, ◌&&◌, if◌then◌else◌};
-ghost use Rattle.std.specs.Option.{option_map};
+ghost use Rattle.std.specs.Prelude.{◌≡◌, Bool, map, slice_get, option_copied, not, ◌&&◌};
 ghost use Rattle.java_tree.specs.declared.tree.Name.{Name};
 ghost use Rattle.java_tree.specs.declared.tree.Mod.TheVariants as mod_;
-ghost use Rattle.java_tree.specs.View.{plain, var_plain, param_plain, member_plain, decl_plain, unit_plain};
+ghost use Rattle.java_tree.specs.View.{param_plain, member_plain, decl_plain, unit_plain};
 ghost use Rattle.rule_order.specs.First.{IsFirst};
 ghost use Rattle.decl_rules.specs.Generic.{Told};
 ghost use Rattle.decl_rules.specs.PlainRules as rule;
@@ -13,7 +12,7 @@ ghost use Rattle.decl_rules.specs.Looks as spec;
 use crate::generics::GenericNames;
 use crate::members::walk_decls;
 use crate::modifiers::has;
-use java_tree::tree::{Expr, ExprForm, Member, Mod, Name, Param, SourceUnit, TypeDecl, UnOp, Var};
+use java_tree::tree::{Member, Mod, Name, Param, SourceUnit, TypeDecl};
 use java_tree::{Items, Names};
 use rule_order::{Breach, noted};
 

@@ -29,8 +29,7 @@ use Rattle.program_world.proofs.Supers.{argument_null}
 use Rattle.decl_table.specs.Bases.{AreBases}
 use Rattle.decl_table.specs.Program.{built, SameDeclared}
 use Rattle.decl_table.proofs.Bases.{built_in_bases}
-use Rattle.decl_table.proofs.BuiltInLists.{all_at}
-use Rattle.decl_table.proofs.Facts.{one_there}
+use Rattle.decl_table.proofs.Facts.{all_at, one_there}
 use Rattle.decl_table.proofs.Fitting.{HaveParams, place_fits, get_there}
 use Rattle.decl_table.proofs.Listed.{get_either, get_front, get_behind, get_mapped, get_flat, map_some, none_there}
 use Rattle.decl_table.proofs.Supers.{info_for, same_params}
@@ -160,7 +159,7 @@ built_in_parts w n known =
     ∷ (int ∷ int ∷ [], Some text) ∷ (text ∷ [], Some int) ∷ (object ∷ [], Some boolean)
     ∷ ([], Some int) ∷ ([], Some text)
     ∷ (prints ++ prints ++ ([], None) ∷ throwables (4 ∷ []) ++ ([], Some text)
-    ∷ ([], Some text) ∷ throwables (5 ∷ 6 ∷ 7 ∷ 8 ∷ 9 ∷ 10 ∷ 11 ∷ 12 ∷ 13 ∷ 14 ∷ 15 ∷ []))
+    ∷ ([], Some text) ∷ throwables (5 ∷ 6 ∷ 7 ∷ 8 ∷ 9 ∷ 10 ∷ 11 ∷ 12 ∷ 13 ∷ 14 ∷ 15 ∷ 16 ∷ 17 ∷ 18 ∷ []))
   where
     object : Over w n
     object = (ty.Class 0 [], bare_over w n 0 (known 0 (omega arith)))

@@ -1,8 +1,3 @@
-pub mod Built
-pub mod BuiltIns
-pub mod Classes
-pub mod Numbered
-pub mod Written
 pub mod Program
 pub mod Files
 pub mod Bases

@@ -72,7 +72,7 @@ is_generic_name j fs ts f n = unwrap_or (option_map (is_generic_type ts) (meant 
 abbrev pub NamesGenerics : List TypeInfo → JavaNames → List File → Type 0
 NamesGenerics ts j fs = (f : File) (n : Name) (c : ℕ) (info : TypeInfo) → meant j fs f n ≡ Some c → slice_get ts c ≡ Some info → 0 < info.params → info.name ≡ n
 
--- what a file breaks of S10, S12, S13 and S16 to S19
+-- what a file breaks of S10, S12, S13 and S17 to S19
 abbrev pub PlainBreaches : List (List ℕ) → JavaNames → List File → List TypeInfo → File → Breaches
 PlainBreaches names j fs ts f = BreaksPlain f.unit f.user names (is_generic_name j fs ts f)
 

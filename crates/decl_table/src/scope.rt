@@ -44,7 +44,7 @@ pub(crate) fn first_scope_breach(
     Ok(earlier(in_files, behind))
 }
 
-/// The first of S10, S12, S13 and S16 to S19 that the files break.
+/// The first of S10, S12, S13 and S17 to S19 that the files break.
 fn first_plain_breach(
     names: &Names,
     meant: &TypeNames,

@@ -9,9 +9,9 @@ ghost use Rattle.generalize_type.specs.Fits.{is_set, FlagsClass, FlagsAbove, mis
 
 use crate::locals::{local_of, steps_of};
 use class_world::World;
-use small_world::superclass;
 use java_tree::tree::{Name, SourceUnit, Stmt};
 use java_tree::{Names, NoMemory};
+use small_world::superclass;
 use std::alloc::Global;
 
 pub(crate) fn is_set(flags: &[bool], name: Name) -> bool

@@ -13,10 +13,10 @@ use crate::flags::misfits_of;
 use crate::locals::{local_at, steps_of};
 use crate::uses::{UseKind, first_unmet};
 use class_world::World;
-use small_world::{is_below, member_names};
 use edit_writer::{Place, offset_at};
 use java_tree::tree::{Name, SourceUnit, Span};
 use java_tree::{Items, Names, NoMemory};
+use small_world::{is_below, member_names};
 use std::alloc::{AllocError, Global};
 
 /// The bytes from the offset `from` to before `to` become `text`.

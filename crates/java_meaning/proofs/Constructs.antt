@@ -16,8 +16,8 @@ use Rattle.class_world.specs.DirectSupers.{IsDirectSuper}
 use Rattle.java_typing.specs.Main.{before_last}
 use Rattle.java_typing.specs.WorldOf.{place_of, simple_name, class_named, superclass_of, type_info, infos_of, method_info, methods_of, default_constructor, object_constructor, built_in_types, world_of}
 use Rattle.java_typing.specs.Typing.{step_type, IsConstructor}
-use Rattle.decl_table.proofs.Places.{placed}
-use Rattle.decl_table.proofs.WorldFacts.{infos_at, lists_methods}
+use Rattle.small_decls.proofs.Places.{placed}
+use Rattle.small_decls.proofs.WorldFacts.{infos_at, lists_methods}
 use Rattle.java_meaning.specs.Meaning.{is_plain_constructor, constructor_of, class_number, first_class, superclass}
 use Rattle.java_meaning.proofs.MethodBodies.{behind}
 

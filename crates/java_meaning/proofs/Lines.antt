@@ -12,7 +12,7 @@ use Rattle.java_meaning.specs.Meaning as meaning
 use Rattle.java_meaning.specs.Meaning.{Body, Default, bodies, bodies_from, member_body}
 use Rattle.java_meaning.specs.Simple.{printed, body_lines, lines}
 use Rattle.java_meaning.specs.Runs.{body_steps, member_steps}
-use Rattle.decl_table.proofs.Lists.{left_by, mapped_more}
+use Rattle.small_decls.proofs.Lists.{left_by, mapped_more}
 
 -- the statements of the methods of types, in order
 abbrev pub steps_from : List TypeDecl → List Stmts

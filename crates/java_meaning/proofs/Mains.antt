@@ -6,7 +6,7 @@ use Rattle.java_tree.specs.Plain.{TypeDecl}
 use Rattle.java_tree.specs.View.{decl_plain, member_plain}
 use Rattle.java_typing.specs.Declarations.{written_methods}
 use Rattle.java_meaning.specs.Run.{first_of_last}
-use Rattle.decl_table.proofs.Lists.{left_by, methods_from}
+use Rattle.small_decls.proofs.Lists.{left_by, methods_from}
 
 first_more : (m : ℕ) (d : TypeDecl) (ds : List TypeDecl) → 0 < length ds → first_of_last m (d ∷ ds) ≡ first_of_last (m + (length d.members + 1)) ds
 first_more m d [] h = absurd (omega arith)

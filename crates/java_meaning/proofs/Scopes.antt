@@ -21,7 +21,7 @@ use Rattle.java_values.specs.declared.value.Value.{Value}
 use Rattle.java_values.specs.declared.value.Value.TheVariants as v
 use Rattle.java_values.specs.State.{Thing, Held, held}
 use Rattle.java_values.specs.State as state
-use Rattle.decl_table.proofs.Places.{left}
+use Rattle.small_decls.proofs.Places.{left}
 use Rattle.java_meaning.specs.Meaning.{Body, Declared, bodies}
 use Rattle.java_meaning.specs.Simple.{Holds, class_held, PickIs, ArePicks}
 use Rattle.java_meaning.proofs.MethodBodies.{Does, HasBody, Prints, prints, constructs, runs, nothing}

@@ -23,7 +23,7 @@ use Rattle.java_values.specs.declared.value.Value.{Value}
 use Rattle.java_values.specs.declared.value.Value.TheVariants as v
 use Rattle.java_values.specs.State.{Thing, Text, Held, State, held}
 use Rattle.java_values.specs.State as state
-use Rattle.decl_table.proofs.Places.{left}
+use Rattle.small_decls.proofs.Places.{left}
 use Rattle.check_decl.proofs.Annotated.{Typed, Used, Says, SayAll}
 use Rattle.check_decl.proofs.Constructors.{NoConstructors, none_declared}
 use Rattle.check_decl.proofs.Starts.{arguments_of}

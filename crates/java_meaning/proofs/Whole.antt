@@ -10,7 +10,7 @@ use Rattle.java_typing.specs.WorldOf.{world_of}
 use Rattle.java_typing.specs.Declarations.{DeclarationsHold}
 use Rattle.java_typing.specs.Typing.{StepsHold}
 use Rattle.java_typing.specs.Correspond.{Program, IsProgramOf}
-use Rattle.decl_table.specs.declared.small.Declared.{Declared}
+use Rattle.small_decls.specs.declared.small.Declared.{Declared}
 use Rattle.java_meaning.specs.declared.run.Run.{Run}
 use Rattle.java_meaning.specs.Outcome.{Outcome, Gives, Threw, Bound}
 use Rattle.java_meaning.specs.Run.{run}

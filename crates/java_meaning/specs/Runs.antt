@@ -10,14 +10,14 @@ use Rattle.java_grammar.specs.declared.token.Tok.{Tok}
 use Rattle.small_programs.specs.Texts.{Lexes}
 use Rattle.small_programs.specs.Grammar.{Spells}
 use Rattle.java_typing.specs.Typing.{StepsHold}
-use Rattle.decl_table.specs.declared.small.Declared.{Declared}
-use Rattle.decl_table.specs.Built.{IsBuilt}
+use Rattle.small_decls.specs.declared.small.Declared.{Declared}
+use Rattle.small_decls.specs.Built.{IsBuilt}
 use Rattle.java_meaning.specs.Outcome.{Outcome, Gives, Threw, Bound}
 use Rattle.class_world.specs.declared.world.World.{World}
 use Rattle.class_world.specs.declared.world.TypeInfo.{TypeInfo}
 use Rattle.small_world.specs.Subclasses.{IsClassTree}
 use Rattle.small_world.specs.Tables.{Indexes}
-use Rattle.decl_table.specs.Classes.{Numbers}
+use Rattle.small_decls.specs.Classes.{Numbers}
 use Rattle.java_meaning.specs.Meaning as meaning
 use Rattle.java_meaning.specs.Meaning.{Body, bodies, member_body, is_plain_constructor}
 use Rattle.java_meaning.specs.Simple.{Ran, Course, Goes, Cut, Holds, go_on, goes_with, enters, constructs, lines, class_held, ArePicks}

@@ -9,9 +9,9 @@ ghost use Rattle.java_meaning.specs.Runs.{ran_of, course, Holding, AreReady};
 
 use crate::steps::print_of;
 use crate::tables::Tables;
-use small_world::superclass;
 use java_tree::tree::{Name, Stmt};
 use java_tree::{BUILT_IN_TYPES, Items, NoMemory};
+use small_world::superclass;
 use std::alloc::Global;
 use std::collections::HashMap;
 

@@ -5,7 +5,7 @@ ghost use Rattle.java_tree.specs.declared.tree.Name as names;
 ghost use Rattle.java_tree.specs.Plain as t;
 ghost use Rattle.java_tree.specs.View.{stmt_plain, stmts_plain, unit_plain};
 ghost use Rattle.java_typing.specs.WorldOf.{world_of};
-ghost use Rattle.decl_table.specs.Built.{IsBuilt};
+ghost use Rattle.small_decls.specs.Built.{IsBuilt};
 ghost use Rattle.class_world.specs.declared.world.World.{World};
 ghost use Rattle.java_meaning.specs.declared.steps.Source.TheVariants as sources;
 ghost use Rattle.java_meaning.specs.Steps as spec;
@@ -19,11 +19,11 @@ use crate::bodies::main_number;
 use crate::machine::{Locals, Machine};
 use crate::steps::{LocalCall, Source, Store, call_of, store_of};
 use crate::tables::Tables;
-use small_world::find_method;
-use decl_table::Declared;
 use java_tree::tree::{Name, SourceUnit, Stmt};
 use java_tree::{Items, NoMemory};
 use java_typing::main_steps;
+use small_decls::Declared;
+use small_world::find_method;
 use std::alloc::Global;
 
 /// How a run ends.

@@ -4,11 +4,11 @@ ghost use Rattle.std.specs.Prelude.{◌≡◌, map};
 ghost use Rattle.std.specs.Option.{option_copied};
 ghost use Rattle.java_tree.specs.Plain as t;
 ghost use Rattle.java_tree.specs.View.{plain, plains, stmt_plain, var_plain};
-ghost use Rattle.decl_table.specs.Classes.{Numbers};
+ghost use Rattle.small_decls.specs.Classes.{Numbers};
 ghost use Rattle.java_meaning.specs.Steps as spec;
 
-use decl_table::ClassTable;
 use java_tree::tree::{Expr, ExprForm, Name, Stmt, StmtForm, Var};
+use small_decls::ClassTable;
 
 /// The object that a local gets: a new one of a class, by number, or the one that a local holds.
 #[derive(Clone, Copy)]

@@ -5,16 +5,16 @@ ghost use Rattle.std.specs.List.{find};
 ghost use Rattle.java_tree.specs.declared.tree.Name as names;
 ghost use Rattle.java_tree.specs.Plain as t;
 ghost use Rattle.java_tree.specs.View.{stmts_plain, unit_plain};
-ghost use Rattle.decl_table.specs.Built.{IsBuilt};
+ghost use Rattle.small_decls.specs.Built.{IsBuilt};
 ghost use Rattle.java_meaning.specs.Meaning as meaning;
 ghost use Rattle.java_meaning.specs.Simple.{ArePicks, printed, lines};
 ghost use Rattle.java_meaning.specs.Runs.{class_constructor, AreReady, AreTables};
 
 use crate::bodies::bodies_of;
 use class_world::World;
-use decl_table::Declared;
 use java_tree::NoMemory;
 use java_tree::tree::{SourceUnit, Stmt};
+use small_decls::Declared;
 use std::alloc::Global;
 
 /// The declared types and methods; the first constructor without parameters of each class; and the statements of each method.

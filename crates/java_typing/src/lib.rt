@@ -1,4 +1,4 @@
-//! Typing, as definitions for the contracts above (JLS 3rd edition, chapters 8, 14 and 15), and where main's statements are.
+//! Typing of small programs alone, as definitions for the contracts above (JLS 3rd edition, chapters 8, 14 and 15), and where the statements of main are. It goes with the small path.
 #![tactic(auto)]
 
 mod body;

@@ -5,7 +5,7 @@ use Rattle.java_tree.specs.View.{unit_plain}
 use Rattle.java_tree.specs.declared.tree.SourceUnit.{SourceUnit}
 use Rattle.java_grammar.specs.declared.token.Tok.{Tok}
 use Rattle.source_files.specs.Trees.{AreTrees}
-use Rattle.decl_table.specs.Built.{IsBuilt}
+use Rattle.small_decls.specs.Built.{IsBuilt}
 use Rattle.refactor_app.specs.declared.program.Small.{Small}
 use Rattle.refactor_app.specs.Program.{Program, IsRead, IsSmall, IsTypeNamed}
 

@@ -7,7 +7,7 @@ ghost use Rattle.java_tree.specs.Names.{AreDistinct};
 ghost use Rattle.java_tree.specs.View.{unit_plain};
 ghost use Rattle.command_words.specs.Names.{IsIdentifier};
 ghost use Rattle.edit_writer.specs.Places as places;
-ghost use Rattle.decl_table.specs.Classes.{Numbers};
+ghost use Rattle.small_decls.specs.Classes.{Numbers};
 ghost use Rattle.generalize_type.specs.Steps.{IsConstrained};
 ghost use Rattle.report_text.specs.Report as lines;
 ghost use Rattle.refactor_app.specs.Asked.{request_of};

@@ -4,10 +4,10 @@ ghost use Rattle.std.specs.Prelude.{◌≡◌, ◌≤◌, true, false, length, I
 ghost use Rattle.refactor_app.specs.Small.{IsProgramOf, IsNoProgram, HasUnit, HasTree};
 
 use check_decl::check_small;
-use decl_table::{BuildFault, Declared, build_small};
 use java_lexer::{LexFault, lex};
 use java_tree::tree::SourceUnit;
 use java_tree::{Names, NoMemory};
+use small_decls::{BuildFault, Declared, build_small};
 use small_programs::is_small;
 use std::alloc::Global;
 

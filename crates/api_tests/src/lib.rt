@@ -1,0 +1,11 @@
+//! Tests of public calls that no run of the program shows.
+#![tactic(auto)]
+
+#[cfg(test)]
+mod calls;
+#[cfg(test)]
+mod literals;
+#[cfg(test)]
+mod memory;
+#[cfg(test)]
+mod runs;

@@ -1,0 +1,5 @@
+pub mod Built
+pub mod BuiltIns
+pub mod Classes
+pub mod Numbered
+pub mod Written

@@ -1,0 +1,3 @@
+class A { }
+class B extends A { void m() { System.out.println("b"); } }
+class Main { public static void main(String[] args) { B x = new B(); x.m(); } }

@@ -1,0 +1,2 @@
+package java.util;
+public interface Iterator<E> { boolean hasNext(); E next(); void remove(); }

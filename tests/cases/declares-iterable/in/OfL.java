@@ -1,0 +1,2 @@
+package l;
+public interface Iterator<E> { boolean hasNext(); E next(); }

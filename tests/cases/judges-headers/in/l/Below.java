@@ -1,0 +1,2 @@
+package l;
+public class Below extends Box<Below> { }

@@ -1,0 +1,2 @@
+package l;
+public interface Row<E> { }

@@ -1,0 +1,6 @@
+package l;
+public class B {
+  void near() { }
+  public void open() { }
+  private void own() { }
+}

@@ -1,0 +1,4 @@
+package l;
+public abstract class Open {
+  abstract void near();
+}

@@ -1,0 +1,2 @@
+package shop;
+public class A { }

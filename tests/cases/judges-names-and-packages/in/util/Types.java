@@ -1,0 +1,1 @@
+package util; public class List { } public class Lists { }

@@ -1,0 +1,3 @@
+package util.map;
+public class Map { }
+class Hidden { }

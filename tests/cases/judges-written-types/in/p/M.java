@@ -1,0 +1,2 @@
+package p;
+public class M<K, V> { }

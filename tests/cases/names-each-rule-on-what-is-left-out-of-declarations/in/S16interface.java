@@ -1,3 +1,0 @@
-interface A {
-  String S = "s", T = ("t");
-}

@@ -1,0 +1,5 @@
+package l;
+
+public interface I<T> {
+    void m(T x);
+}

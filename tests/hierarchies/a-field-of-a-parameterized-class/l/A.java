@@ -1,0 +1,5 @@
+package l;
+
+public class A<T> {
+    public T x;
+}

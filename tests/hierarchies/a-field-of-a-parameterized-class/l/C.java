@@ -1,0 +1,5 @@
+package l;
+
+public class C<T> extends A<T> {
+    public T x;
+}

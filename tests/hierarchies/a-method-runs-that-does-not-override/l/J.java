@@ -1,0 +1,5 @@
+package l;
+
+public interface J extends K<String> {
+    void m(String x);
+}

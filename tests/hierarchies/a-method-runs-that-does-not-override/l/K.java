@@ -1,0 +1,5 @@
+package l;
+
+public interface K<T> {
+    void m(T x);
+}

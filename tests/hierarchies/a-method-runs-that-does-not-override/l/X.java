@@ -1,0 +1,3 @@
+package l;
+
+public abstract class X extends C implements K<Exception> { }

@@ -1,0 +1,5 @@
+package l;
+
+public class A implements I<String>, J {
+    public void m(String x) { System.out.println("A.m(String)"); }
+}

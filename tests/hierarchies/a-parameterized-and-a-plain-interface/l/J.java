@@ -1,0 +1,5 @@
+package l;
+
+public interface J {
+    void m(String x);
+}

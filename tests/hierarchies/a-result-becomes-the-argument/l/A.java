@@ -1,0 +1,5 @@
+package l;
+
+public class A<T> {
+    public T m() { System.out.println("A.m()"); return null; }
+}

@@ -1,0 +1,6 @@
+package l;
+
+public interface List<E> {
+    void put(E e);
+    E get();
+}

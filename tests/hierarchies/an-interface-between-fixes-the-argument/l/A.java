@@ -1,0 +1,3 @@
+package l;
+
+public abstract class A implements K { }

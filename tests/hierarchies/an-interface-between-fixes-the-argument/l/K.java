@@ -1,0 +1,5 @@
+package l;
+
+public interface K extends I<String> {
+    void m(String x);
+}

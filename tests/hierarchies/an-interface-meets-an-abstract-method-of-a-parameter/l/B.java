@@ -1,0 +1,3 @@
+package l;
+
+public abstract class B extends A<String> implements I { }

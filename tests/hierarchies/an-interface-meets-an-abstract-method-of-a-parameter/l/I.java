@@ -1,0 +1,5 @@
+package l;
+
+public interface I {
+    void m(String x);
+}

@@ -1,0 +1,5 @@
+package l;
+
+public class A<T> {
+    public void m(T x) { System.out.println("A.m(T)"); }
+}

@@ -1,0 +1,5 @@
+package l;
+
+public class A<T> {
+    public T m(T x) { System.out.println("A.m(T)"); return x; }
+}

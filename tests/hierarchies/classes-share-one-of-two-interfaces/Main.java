@@ -1,0 +1,26 @@
+interface I {
+    void m();
+}
+
+interface J {
+    void m();
+}
+
+class A implements I, J {
+    public void m() { System.out.println("A.m()"); }
+}
+
+class B implements J {
+    public void m() { System.out.println("B.m()"); }
+}
+
+class Main {
+    public static void main(String[] args) {
+        I x = new A();
+        x.m();
+        J y = new A();
+        y.m();
+        y = new B();
+        y.m();
+    }
+}

@@ -1,0 +1,24 @@
+class A {
+    void m() { System.out.println("A.m()"); }
+}
+
+class B extends A {
+    void m() { System.out.println("B.m()"); }
+}
+
+class C extends B {
+    void m() { System.out.println("C.m()"); }
+}
+
+class Main {
+    public static void main(String[] args) {
+        A x = new A();
+        x.m();
+        x = new B();
+        x.m();
+        x = new C();
+        x.m();
+        B y = new C();
+        y.m();
+    }
+}

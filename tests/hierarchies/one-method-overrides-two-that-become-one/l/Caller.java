@@ -1,0 +1,5 @@
+package l;
+
+public class Caller<T> {
+    public void call(A<T> a, T x) { a.m(x); }
+}
