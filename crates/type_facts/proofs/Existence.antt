@@ -1,7 +1,6 @@
 -- That there are facts of a ready program, by the excluded middle of what is asked.
 use Rattle.std.proofs.Common.{◌≡◌, ℕ, ◌+◌, ◌<◌, ◌≤◌, zero, suc, Bool, true, false, List, [], ◌∷◌, Option, Some, None, ◌⊎◌, inl, inr, ◌↔◌, refl, subst, length, arith}
 use Rattle.std.specs.Prelude.{IsTrue, slice_get, slice_index_or as get_or}
-use Rattle.std.specs.List.{Contains}
 use Rattle.std.specs.List.Sorted.{IsStrictlyIncreasing}
 use Rattle.std.proofs.lemmas.Bool.{cases_eq}
 use Rattle.std.proofs.lemmas.Option.{slice_get_within, get_or_from_slice_get}
@@ -9,23 +8,16 @@ use Rattle.java_tree.specs.declared.tree.Name.{Name}
 use Rattle.class_world.specs.declared.world.World.{World}
 use Rattle.class_world.specs.declared.world.JavaType.{JavaType}
 use Rattle.class_world.specs.declared.world.JavaType.TheVariants as ty
-use Rattle.class_world.specs.declared.access.Declared.{Declared}
-use Rattle.class_world.specs.Access.{Sees}
 use Rattle.class_world.specs.Counted.{IsCountedNamed}
 use Rattle.class_world.specs.Inheritance.{FieldIs, IsFieldNamed}
-use Rattle.class_world.specs.Sound.{IsKnown, IsOfWorld, IsSound}
-use Rattle.class_world.specs.Subtypes.{Fits, IsSuperAs, IsUnchecked, Parameterizes, Subtype, through, raw}
+use Rattle.class_world.specs.Sound.{IsKnown, IsSound}
+use Rattle.class_world.specs.Subtypes.{IsSuperAs, Parameterizes, Subtype, through, raw}
 use Rattle.class_world.specs.Types.{IsTypeOver, a_primitive, the_null, a_class, a_variable, an_array}
 use Rattle.class_world.proofs.Decides as by
 use Rattle.class_world.proofs.Substs.{there_is}
-use Rattle.type_kinds.specs.Casts.{Castable}
-use Rattle.type_kinds.specs.OfWorld.{AreBoth, HasSupers, SuperIs}
-use Rattle.type_names.specs.declared.known.JavaNames.{JavaNames}
-use Rattle.type_names.specs.Known.{File}
+use Rattle.type_kinds.specs.OfWorld.{HasSupers, SuperIs}
 use Rattle.type_names.specs.Sees.{meant}
-use Rattle.type_names.specs.Tables.{StandsFor}
-use Rattle.type_facts.specs.declared.questions.Questions.{Questions}
-use Rattle.type_facts.specs.Facts.{AreFacts, Facts, IsReady, MethodsAre}
+use Rattle.type_facts.specs.Facts.{MethodsAre}
 use Rattle.type_facts.specs.Laws.{Decided, HasOther, HasParameterized, HaveFacts, IsDecided, IsOnlyField}
 use Rattle.type_facts.proofs.Orders.{Has, Rises, at_contains, contains_at}
 
@@ -154,45 +146,55 @@ pub methods_by : (w : World) → IsDecided w → (c : ℕ) (x : Name) (n : ℕ) 
 methods_by w decided c x n (inl known) =
     let P = λ (m : ℕ). IsCountedNamed w c x n m in
     let decide = λ (m : ℕ). decided.counted c x n m in
-    let ms = listed P decide 0 (length w.methods) in
-    (ms, (λ h. (λ m. (
-        λ at. (listed_from P decide 0 (length w.methods) m (contains_at ms m at)).0,
-        λ at. at_contains ms m (is_listed P decide 0 (length w.methods) m at (omega arith) (let lt = counted_within w c x n m at in omega (arith, lt))),
-      ), ascending ms (listed_rises P decide 0 (length w.methods))), λ h. absurd (h known)))
+    let ms = listed P decide 0 (length w.methods) in (
+      ms,
+      (
+        λ h. (
+          λ m. (
+            λ at. (listed_from P decide 0 (length w.methods) m (contains_at ms m at)).0,
+            λ at. at_contains ms m (is_listed P decide 0 (length w.methods) m at (omega arith) (let lt = counted_within w c x n m at in omega (arith, lt))),
+          ),
+          ascending ms (listed_rises P decide 0 (length w.methods)),
+        ),
+        λ h. absurd (h known),
+      ),
+    )
 methods_by w decided c x n (inr none) = ([], (λ h. absurd (none h), λ h. refl))
 
 -- ---- all of them
 
 pub facts : HaveFacts
 facts q java files file decided ready stands at =
-    let w = q.world.now in
-    (record {
-      world = w;
-      length_name = q.length_name;
-      mean = meant java files file;
-      fits = λ s t. test (decided.fits s t);
-      sub = λ s t. test (decided.sub s t);
-      unchecked = λ s t. test (decided.unchecked s t);
-      castable = λ s t. test (decided.castable s t);
-      super_as = λ t g. (super_by w decided ready.sound t g (decided.has_supers t)).0;
-      field = λ t x. field_by w t x (decided.only t x);
-      methods = λ c x n. (methods_by w decided c x n (decided.known c)).0;
-      sees = λ c d. test (decided.sees c d);
-    }, record {
-      world = refl;
-      length_name = refl;
-      java = java;
-      files = files;
-      file = file;
-      stands = stands;
-      at = at;
-      mean = λ x. refl;
-      fits = λ s t. tells (decided.fits s t);
-      sub = λ s t. tells (decided.sub s t);
-      unchecked = λ s t. tells (decided.unchecked s t);
-      castable = λ s t. tells (decided.castable s t);
-      super_as = λ t g. (super_by w decided ready.sound t g (decided.has_supers t)).1;
-      field = λ t x. field_is w decided t x (decided.only t x);
-      methods = λ c x n. (methods_by w decided c x n (decided.known c)).1;
-      sees = λ c d. tells (decided.sees c d);
-    })
+    let w = q.world.now in (
+      record {
+        world = w;
+        length_name = q.length_name;
+        mean = meant java files file;
+        fits = λ s t. test (decided.fits s t);
+        sub = λ s t. test (decided.sub s t);
+        unchecked = λ s t. test (decided.unchecked s t);
+        castable = λ s t. test (decided.castable s t);
+        super_as = λ t g. (super_by w decided ready.sound t g (decided.has_supers t)).0;
+        field = λ t x. field_by w t x (decided.only t x);
+        methods = λ c x n. (methods_by w decided c x n (decided.known c)).0;
+        sees = λ c d. test (decided.sees c d);
+      },
+      record {
+        world = refl;
+        length_name = refl;
+        java = java;
+        files = files;
+        file = file;
+        stands = stands;
+        at = at;
+        mean = λ x. refl;
+        fits = λ s t. tells (decided.fits s t);
+        sub = λ s t. tells (decided.sub s t);
+        unchecked = λ s t. tells (decided.unchecked s t);
+        castable = λ s t. tells (decided.castable s t);
+        super_as = λ t g. (super_by w decided ready.sound t g (decided.has_supers t)).1;
+        field = λ t x. field_is w decided t x (decided.only t x);
+        methods = λ c x n. (methods_by w decided c x n (decided.known c)).1;
+        sees = λ c d. tells (decided.sees c d);
+      },
+    )

@@ -1,5 +1,5 @@
 -- Each fact has one answer.
-use Rattle.std.proofs.Common.{◌≡◌, ℕ, ◌<◌, zero, suc, Bool, true, false, List, [], ◌∷◌, Option, Some, None, ◌⊎◌, inl, inr, ◌↔◌, refl, sym, ap, ◌∙◌, subst, arith}
+use Rattle.std.proofs.Common.{◌≡◌, ℕ, ◌<◌, zero, suc, Bool, true, false, List, [], ◌∷◌, Option, Some, None, inl, inr, ◌↔◌, refl, sym, ap, ◌∙◌, subst, arith}
 use Rattle.std.specs.Prelude.{IsTrue, slice_get, slice_index_or as get_or}
 use Rattle.std.specs.List.{Contains}
 use Rattle.std.specs.List.Sorted.{IsStrictlyIncreasing}
@@ -94,8 +94,8 @@ same_rising (x ∷ xs) (y ∷ ys) a b f g =
     let high = g y (zero, refl) in
     let one : x ≡ y = heads x y xs ys a b low.0 low.1 high.0 high.1 in
     let rest : xs ≡ ys = same_rising xs ys (tail_rises x xs a) (tail_rises y ys b)
-        (λ m h. let there = f m (suc h.0, h.1) in behind x m xs ys a h there.0 (subst (λ y. slice_get (y ∷ ys) there.0 ≡ Some m) (sym one) there.1))
-        (λ m h. let there = g m (suc h.0, h.1) in behind y m ys xs b h there.0 (subst (λ x. slice_get (x ∷ xs) there.0 ≡ Some m) one there.1)) in
+    (λ m h. let there = f m (suc h.0, h.1) in behind x m xs ys a h there.0 (subst (λ y. slice_get (y ∷ ys) there.0 ≡ Some m) (sym one) there.1))
+    (λ m h. let there = g m (suc h.0, h.1) in behind y m ys xs b h there.0 (subst (λ x. slice_get (x ∷ xs) there.0 ≡ Some m) one there.1)) in
     cc (one, rest)
 
 pub same_ascending : (xs ys : List ℕ) → IsStrictlyIncreasing xs → IsStrictlyIncreasing ys → ((m : ℕ) → Contains xs m ↔ Contains ys m) → xs ≡ ys

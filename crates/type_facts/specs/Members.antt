@@ -1,9 +1,6 @@
 -- Members as a type has them: what their declared types are there (JLS 4.5.2, 4.8).
-use Rattle.std.specs.Prelude.{ℕ, Bool, true, false, ◌&&◌, not, List, [], ◌∷◌, Option, Some, None, slice_get, nat_lt, if◌then◌else◌}
-use Rattle.std.specs.List.{list_any}
+use Rattle.std.specs.Prelude.{ℕ, Bool, true, false, [], ◌∷◌, Option, Some, None, slice_get, nat_lt, if◌then◌else◌}
 use Rattle.java_tree.specs.declared.tree.Node.{Node}
-use Rattle.java_tree.specs.declared.tree.Mod.{Mod}
-use Rattle.java_tree.specs.declared.tree.Mod.TheVariants as mods
 use Rattle.class_world.specs.declared.world.World.{World}
 use Rattle.class_world.specs.declared.world.TypeInfo.{TypeInfo}
 use Rattle.class_world.specs.declared.world.JavaType.{JavaType, out-JavaType}

@@ -29,7 +29,6 @@ pub struct Locals {
 impl Model for Locals {
     ghost use Rattle.std.specs.Prelude.{List};
     ghost use Rattle.type_facts.specs.declared.scope.LocalVar as declared;
-
     ghost use Rattle.class_world.specs.contracts.world.JavaType as java_type;
     ghost use Rattle.std.specs.Coded.{codes};
 

@@ -101,7 +101,13 @@ fn is_below_erased(
 }
 
 #[tactic(auto, using(java_core::proofs::Views::plain_at))]
-fn implied(alloc: Global, node: Node, declared: JavaType, ty: JavaType, form: CoreForm) -> Result<CoreExpr, NoMemory>
+fn implied(
+    alloc: Global,
+    node: Node,
+    declared: JavaType,
+    ty: JavaType,
+    form: CoreForm,
+) -> Result<CoreExpr, NoMemory>
     ensures { IfOk result (λ r. plain r ≡ p.At node ty (p.Implied (p.At node declared (form_plain form)))) }
 {
     let of = Boxed::new(
