@@ -1,5 +1,5 @@
 -- One more item of a list.
-use Rattle.std.proofs.Common.{◌≡◌, ℕ, zero, suc, ◌+◌, ◌<◌, List, [], ◌∷◌, ◌++◌, map, length, drop, drop-cons, sym, ap, ◌∙◌, arith}
+use Rattle.std.proofs.Common.{◌≡◌, Some, None, ℕ, zero, suc, ◌+◌, ◌<◌, List, [], ◌∷◌, ◌++◌, map, length, drop, drop-cons, sym, ap, ◌∙◌, arith}
 use Rattle.std.specs.Prelude.{slice_index_or as get_or}
 use Rattle.java_tree.specs.declared.tree.Expr.{Expr}
 use Rattle.java_tree.specs.View.{plain, plains}
@@ -14,7 +14,7 @@ use Rattle.type_facts.specs.declared.scope.LocalVar.{LocalVar}
 use Rattle.type_facts.specs.declared.scope.Place.{Place}
 use Rattle.type_facts.specs.Facts.{Facts}
 use Rattle.operator_rules.specs.declared.uses.Use.TheVariants as use_
-use Rattle.check_expr.specs.Typed.{typed, typeds, initial, items, item, node_of}
+use Rattle.check_expr.specs.Typed.{typed_for, typeds, items, item, node_of}
 use Rattle.check_expr.specs.Heights.{height, heights}
 
 front : (es : List Expr) (i : ℕ) (e : Expr) → i < length es → e ≡ get_or es i e → plains (drop i es) ≡ t.Also (plain e) (plains (drop (i + 1) es))
@@ -35,7 +35,7 @@ lower (x ∷ xs) (suc k) e low is = let i : height (plain e) < heights (plains x
 
 -- one more argument
 pub typed_step : (f : Facts) (g : Place) (ls : List LocalVar) (es : List Expr) (i : ℕ) (e : Expr) (done done' : List CoreExpr) (x : CoreExpr) → i < length es → e ≡ get_or es i e
-    → typed f g ls use_.Read (plain e) ≡ Fine (view.plain x) → done' ≡ done ++ x ∷ [] → behind (map view.plain done) (typeds f g ls (plains (drop i es))) ≡ typeds f g ls (plains es)
+    → typed_for f g ls None use_.Read (plain e) ≡ Fine (view.plain x) → done' ≡ done ++ x ∷ [] → behind (map view.plain done) (typeds f g ls (plains (drop i es))) ≡ typeds f g ls (plains es)
     → behind (map view.plain done') (typeds f g ls (plains (drop (i + 1) es))) ≡ typeds f g ls (plains es)
 typed_step f g ls es i e done done' x low is fine more so_far =
     let here : plains (drop i es) ≡ t.Also (plain e) (plains (drop (i + 1) es)) = front es i e low is in
@@ -47,7 +47,7 @@ typed_step f g ls es i e done done' x low is fine more so_far =
 
 -- one more item of an array
 pub item_step : (f : Facts) (g : Place) (ls : List LocalVar) (ty : JavaType) (es : List Expr) (i : ℕ) (e : Expr) (done done' : List CoreExpr) (x : CoreExpr) → i < length es → e ≡ get_or es i e
-    → item f ty (node_of (plain e)).id (initial f g ls ty (plain e)) ≡ Fine (view.plain x) → done' ≡ done ++ x ∷ []
+    → item f ty (node_of (plain e)).id (typed_for f g ls (Some ty) use_.Read (plain e)) ≡ Fine (view.plain x) → done' ≡ done ++ x ∷ []
     → behind (map view.plain done) (items f g ls ty (plains (drop i es))) ≡ items f g ls ty (plains es)
     → behind (map view.plain done') (items f g ls ty (plains (drop (i + 1) es))) ≡ items f g ls ty (plains es)
 item_step f g ls ty es i e done done' x low is fine more so_far =

@@ -1,10 +1,14 @@
 //! The check of expressions.
 
-ghost use Rattle.std.specs.Prelude.{◌≡◌, map};
+ghost use Rattle.std.specs.Prelude.{◌≡◌, Some, None, map};
+ghost use Rattle.std.specs.Option.{option_copied};
 ghost use Rattle.java_tree.specs.View as view;
 ghost use Rattle.java_core.specs.View.{plain, written};
-ghost use Rattle.checked.specs.Checked.{Meets};
+ghost use Rattle.checked.specs.Checked.{Meets, and_then};
 ghost use Rattle.type_facts.specs.Facts.{AreFacts, Facts, IsReady};
+ghost use Rattle.type_kinds.specs.Kinds as kinds;
+ghost use Rattle.operator_rules.specs.declared.uses.Use.TheVariants as use_;
+ghost use Rattle.operator_rules.specs.Writtens as writtens;
 ghost use Rattle.check_expr.specs.Typed as spec;
 
 use crate::forms;
@@ -27,9 +31,34 @@ use type_facts::Questions;
 use type_facts::scope::{Locals, Place};
 use type_kinds::kinds::element;
 
+/// A number as it is written.
+#[derive(Clone, Copy)]
+struct Literal {
+    node: Node,
+    value: u64,
+    decimal: bool,
+    long: bool,
+}
+
+fn literal_of(e: &Expr) -> Option<Literal>
+    ensures { result ≡ spec.literal_of (view.plain e.now) }
+{
+    match &e.form {
+        ExprForm::Number {
+            value,
+            decimal,
+            long,
+        } => Some(Literal {
+            node: e.node,
+            value: *value,
+            decimal: *decimal,
+            long: *long,
+        }),
+        _ => None,
+    }
+}
+
 /// The core of an expression, or the first rule that it breaks, by its node.
-#[cycle(check)]
-#[tactic(auto, using(java_tree::proofs::Views::plain_call, java_tree::proofs::Views::plain_call_on, java_tree::proofs::Views::plain_assign))]
 pub fn check(
     alloc: Global,
     q: &Questions<'_>,
@@ -40,6 +69,39 @@ pub fn check(
 ) -> Result<CoreExpr, Stop>
     requires ready { IsReady q.now }
     ensures { (f : Facts) → AreFacts q.now f → Meets plain result (spec.typed f place.now locals.now how (view.plain e.now)) }
+{
+    check_for(alloc, q, place, locals, None, how, e)
+}
+
+/// What gives a variable of this type its value: items for an array, or an expression.
+pub fn check_initial(
+    alloc: Global,
+    q: &Questions<'_>,
+    place: &Place,
+    locals: &Locals,
+    ty: &JavaType,
+    e: &Expr,
+) -> Result<CoreExpr, Stop>
+    requires ready { IsReady q.now }
+    ensures { (f : Facts) → AreFacts q.now f → Meets plain result (spec.initial f place.now locals.now ty.now (view.plain e.now)) }
+{
+    check_for(alloc, q, place, locals, Some(ty), Use::Read, e)
+}
+
+// `to` is the type of the variable or item that the value is for, where it stands as one.
+#[cycle(check)]
+#[tactic(auto, using(java_tree::proofs::Views::plain_call, java_tree::proofs::Views::plain_call_on, java_tree::proofs::Views::plain_assign))]
+fn check_for(
+    alloc: Global,
+    q: &Questions<'_>,
+    place: &Place,
+    locals: &Locals,
+    to: Option<&JavaType>,
+    how: Use,
+    e: &Expr,
+) -> Result<CoreExpr, Stop>
+    requires ready { IsReady q.now }
+    ensures { (f : Facts) → AreFacts q.now f → Meets plain result (spec.typed_for f place.now locals.now (option_copied to.entry) how (view.plain e.now)) }
 {
     let node = e.node;
     match &e.form {
@@ -71,7 +133,7 @@ pub fn check(
             match before {
                 Err(_) => Err(Stop::NoMemory),
                 Ok(Dotted::Value) => {
-                    let of = boxed(alloc, check(alloc, q, place, locals, Use::Read, of.get()));
+                    let of = boxed(alloc, check_for(alloc, q, place, locals, None, Use::Read, of.get()));
                     forms::field_on(alloc, q, place, how, node, of, *name)
                 }
                 Ok(Dotted::Type(at, class)) => {
@@ -85,8 +147,8 @@ pub fn check(
         }
         ExprForm::SuperField(name) => super_field(alloc, q, place, how, node, *name),
         ExprForm::Index { of, at } => {
-            let of = boxed(alloc, check(alloc, q, place, locals, Use::Read, of.get()));
-            let at = boxed(alloc, check(alloc, q, place, locals, Use::Read, at.get()));
+            let of = boxed(alloc, check_for(alloc, q, place, locals, None, Use::Read, of.get()));
+            let at = boxed(alloc, check_for(alloc, q, place, locals, None, Use::Read, at.get()));
             index(alloc, node, of, at)
         }
         ExprForm::Call { of, name, args } => match of {
@@ -99,7 +161,7 @@ pub fn check(
                 match before {
                     Err(_) => Err(Stop::NoMemory),
                     Ok(Dotted::Value) => {
-                        let of = boxed(alloc, check(alloc, q, place, locals, Use::Read, of.get()));
+                        let of = boxed(alloc, check_for(alloc, q, place, locals, None, Use::Read, of.get()));
                         let args = check_all(alloc, q, place, locals, args.as_slice());
                         forms::call_on(alloc, q, place, how, node, of, *name, args)
                     }
@@ -129,12 +191,15 @@ pub fn check(
             forms::array_of(alloc, node, ty, *extra, sizes)
         }
         ExprForm::NewFilled { ty, items } => check_filled(alloc, q, place, locals, node, ty, items.get()),
-        ExprForm::Items(_) => Err(Stop::Broken {
-            node: node.id,
-            rule: 8,
-        }),
+        ExprForm::Items(items) => match to {
+            None => Err(Stop::Broken {
+                node: node.id,
+                rule: 8,
+            }),
+            Some(to) => check_filling(alloc, q, place, locals, node, to, items.as_slice()),
+        },
         ExprForm::Paren(of) => {
-            let of = boxed(alloc, check(alloc, q, place, locals, within(how), of.get()));
+            let of = boxed(alloc, check_for(alloc, q, place, locals, None, within(how), of.get()));
             forms::paren(alloc, node, of)
         }
         ExprForm::Unary { op, of } => {
@@ -142,39 +207,39 @@ pub fn check(
             unary(alloc, node, *op, of)
         }
         ExprForm::Step { up, before, of } => {
-            let of = boxed(alloc, check(alloc, q, place, locals, Use::Change, of.get()));
+            let of = boxed(alloc, check_for(alloc, q, place, locals, None, Use::Change, of.get()));
             step(alloc, q, locals, node, *up, *before, of)
         }
         ExprForm::Cast { ty, close, of } => {
             let ty = written(alloc, q, place, ty);
-            let of = boxed(alloc, check(alloc, q, place, locals, Use::Read, of.get()));
+            let of = boxed(alloc, check_for(alloc, q, place, locals, None, Use::Read, of.get()));
             cast(alloc, q, node, ty, *close, of)
         }
         ExprForm::Binary { op, left, right } => {
-            let left = boxed(alloc, check(alloc, q, place, locals, Use::Read, left.get()));
-            let right = boxed(alloc, check(alloc, q, place, locals, Use::Read, right.get()));
+            let left = boxed(alloc, check_for(alloc, q, place, locals, None, Use::Read, left.get()));
+            let right = boxed(alloc, check_for(alloc, q, place, locals, None, Use::Read, right.get()));
             operands(alloc, q, node, *op, left, right)
         }
         ExprForm::InstanceOf { of, ty } => {
-            let of = boxed(alloc, check(alloc, q, place, locals, Use::Read, of.get()));
+            let of = boxed(alloc, check_for(alloc, q, place, locals, None, Use::Read, of.get()));
             let ty = written(alloc, q, place, ty);
             instance_of(alloc, q, node, of, ty)
         }
         ExprForm::Cond { test, yes, no } => {
-            let test = boxed(alloc, check(alloc, q, place, locals, Use::Read, test.get()));
-            let yes = boxed(alloc, check(alloc, q, place, locals, Use::Read, yes.get()));
-            let no = boxed(alloc, check(alloc, q, place, locals, Use::Read, no.get()));
+            let test = boxed(alloc, check_for(alloc, q, place, locals, None, Use::Read, test.get()));
+            let yes = boxed(alloc, check_for(alloc, q, place, locals, None, Use::Read, yes.get()));
+            let no = boxed(alloc, check_for(alloc, q, place, locals, None, Use::Read, no.get()));
             cond(alloc, q, node, test, yes, no)
         }
         ExprForm::Assign { op, to, from } => match op {
             None => {
-                let to = boxed(alloc, check(alloc, q, place, locals, Use::Set, to.get()));
-                let from = boxed(alloc, check(alloc, q, place, locals, Use::Read, from.get()));
+                let to = boxed(alloc, check_for(alloc, q, place, locals, None, Use::Set, to.get()));
+                let from = boxed(alloc, check_for(alloc, q, place, locals, None, Use::Read, from.get()));
                 assign(alloc, q, place, how, locals, node, to, from)
             }
             Some(op) => {
-                let to = boxed(alloc, check(alloc, q, place, locals, Use::Change, to.get()));
-                let from = boxed(alloc, check(alloc, q, place, locals, Use::Read, from.get()));
+                let to = boxed(alloc, check_for(alloc, q, place, locals, None, Use::Change, to.get()));
+                let from = boxed(alloc, check_for(alloc, q, place, locals, None, Use::Read, from.get()));
                 compound(alloc, q, locals, node, *op, to, from)
             }
         },
@@ -192,20 +257,16 @@ fn check_operand(
     e: &Expr,
 ) -> Result<CoreExpr, Stop>
     requires ready { IsReady q.now }
-    ensures { (f : Facts) → AreFacts q.now f → Meets plain result (spec.under_sign f place.now locals.now op (view.plain e.now)) }
+    ensures { (f : Facts) → AreFacts q.now f → Meets plain result (spec.signed op (view.plain e.now) (spec.typed_for f place.now locals.now None use_.Read (view.plain e.now))) }
 {
     match op {
-        UnOp::Minus => match &e.form {
-            ExprForm::Number {
-                value,
-                decimal,
-                long,
-            } => number(e.node, *value, *decimal, *long, true),
-            _ => check(alloc, q, place, locals, Use::Read, e),
+        UnOp::Minus => match literal_of(e) {
+            None => check_for(alloc, q, place, locals, None, Use::Read, e),
+            Some(x) => number(x.node, x.value, x.decimal, x.long, true),
         },
-        UnOp::Plus => check(alloc, q, place, locals, Use::Read, e),
-        UnOp::Invert => check(alloc, q, place, locals, Use::Read, e),
-        UnOp::Not => check(alloc, q, place, locals, Use::Read, e),
+        UnOp::Plus => check_for(alloc, q, place, locals, None, Use::Read, e),
+        UnOp::Invert => check_for(alloc, q, place, locals, None, Use::Read, e),
+        UnOp::Not => check_for(alloc, q, place, locals, None, Use::Read, e),
     }
 }
 
@@ -221,38 +282,36 @@ fn check_filled(
     items: &Expr,
 ) -> Result<CoreExpr, Stop>
     requires ready { IsReady q.now }
-    ensures { (f : Facts) → AreFacts q.now f → Meets plain result (spec.filled_by f place.now locals.now node (view.type_plain ty.now) (view.plain items.now)) }
+    ensures { (f : Facts) → AreFacts q.now f → Meets plain result (and_then (writtens.written f place.now (view.type_plain ty.now)) (λ w. spec.filled_of node w (spec.typed_for f place.now locals.now (Some (writtens.type_said w)) use_.Read (view.plain items.now)))) }
 {
     let ty = written(alloc, q, place, ty)?;
-    let items = boxed(alloc, check_initial(alloc, q, place, locals, &ty.ty, items));
+    let items = boxed(alloc, check_for(alloc, q, place, locals, Some(&ty.ty), Use::Read, items));
     forms::filled_of(alloc, node, ty, items)
 }
 
-/// What gives a variable or an item of this type its value: items for an array, or an expression.
+// Items for an array of this type.
 #[cycle(check)]
-pub fn check_initial(
+fn check_filling(
     alloc: Global,
     q: &Questions<'_>,
     place: &Place,
     locals: &Locals,
+    node: Node,
     ty: &JavaType,
-    e: &Expr,
+    items: &[Expr],
 ) -> Result<CoreExpr, Stop>
     requires ready { IsReady q.now }
-    ensures { (f : Facts) → AreFacts q.now f → Meets plain result (spec.initial f place.now locals.now ty.now (view.plain e.now)) }
+    ensures { (f : Facts) → AreFacts q.now f → Meets plain result (spec.filled_by node ty.now (kinds.element ty.now) (λ y. spec.items f place.now locals.now y (view.plains items.now))) }
 {
-    match &e.form {
-        ExprForm::Items(items) => match element(ty) {
-            None => Err(Stop::Broken {
-                node: e.node.id,
-                rule: 8,
-            }),
-            Some(of) => {
-                let items = check_items(alloc, q, place, locals, of, items.as_slice());
-                forms::filled(alloc, e.node, ty, items)
-            }
-        },
-        _ => check(alloc, q, place, locals, Use::Read, e),
+    match element(ty) {
+        None => Err(Stop::Broken {
+            node: node.id,
+            rule: 8,
+        }),
+        Some(of) => {
+            let items = check_items(alloc, q, place, locals, of, items);
+            forms::filled(alloc, node, ty, items)
+        }
     }
 }
 
@@ -272,8 +331,8 @@ fn check_items(
 {
     let mut done = Items::new(alloc);
     for e in es {
-        let of = check_initial(alloc, q, place, locals, ty, e);
-        done.push(forms::item(alloc, q, ty, e.node.id, of)?)?;
+        let of = check_for(alloc, q, place, locals, Some(ty), Use::Read, e);
+        done.push(forms::item(alloc, q, ty, e, of)?)?;
     }
     Ok(done)
 }
@@ -293,7 +352,7 @@ pub fn check_all(
 {
     let mut done = Items::new(alloc);
     for e in es {
-        done.push(check(alloc, q, place, locals, Use::Read, e)?)?;
+        done.push(check_for(alloc, q, place, locals, None, Use::Read, e)?)?;
     }
     Ok(done)
 }

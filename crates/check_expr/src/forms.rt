@@ -1,6 +1,7 @@
 //! What each form of expression makes of its parts, where no crate below says it.
 
 ghost use Rattle.std.specs.Prelude.{◌≡◌, ◌+◌, List, length, map, IfOk};
+ghost use Rattle.java_tree.specs.View as view;
 ghost use Rattle.java_core.specs.Plain as p;
 ghost use Rattle.java_core.specs.View.{plain, row, written};
 ghost use Rattle.checked.specs.Checked.{Checked, Fine, Meets};
@@ -15,7 +16,7 @@ ghost use Rattle.check_expr.specs.Typed as spec;
 use checked::Stop;
 use class_world::{JavaType, copied};
 use java_core::{CoreExpr, CoreForm, CoreType};
-use java_tree::tree::{Mod, Name, Node};
+use java_tree::tree::{Expr, Mod, Name, Node};
 use java_tree::{Boxed, Items, NoMemory};
 use member_uses::{Receiver, called, constructor, field_of_value, superclass};
 use operator_rules::Use;
@@ -415,21 +416,24 @@ pub fn filled_of(
     })
 }
 
-/// An item of an array (JLS 10.6): T8, at the item.
-#[tactic(auto, using(java_core::proofs::Views::plain_at))]
+/// An item of an array (JLS 10.6), which is written so: T8, at the item.
+#[tactic(auto, using(java_core::proofs::Views::plain_at, crate::proofs::Nodes::plain_node))]
 pub fn item(
     alloc: Global,
     q: &Questions<'_>,
     ty: &JavaType,
-    node: u32,
+    e: &Expr,
     of: Result<CoreExpr, Stop>,
 ) -> Result<CoreExpr, Stop>
     requires ready { IsReady q.now }
-    ensures { (f : Facts) → AreFacts q.now f → (a : Checked p.Expr) → Meets plain of a → Meets plain result (spec.item f ty.now node a) }
+    ensures { (f : Facts) → AreFacts q.now f → (a : Checked p.Expr) → Meets plain of a → Meets plain result (spec.item f ty.now (spec.node_of (view.plain e.now)).id a) }
 {
     let of = of?;
     if !may_assign(q, &of.ty, ty) {
-        return Err(Stop::Broken { node, rule: 8 });
+        return Err(Stop::Broken {
+            node: e.node.id,
+            rule: 8,
+        });
     }
     Ok(converted_value(alloc, ty, of)?)
 }

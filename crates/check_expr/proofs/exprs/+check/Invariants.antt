@@ -7,8 +7,8 @@ use Rattle.check_expr.specs.Heights.{height, heights, thrice}
 use Rattle.check_expr.specs.Typed as spec
 use Rattle.check_expr.proofs.exprs.+check.Given as goal
 
-abbrev pub decreases-check : goal.decreases-check
-decreases-check l = thrice (height (view.plain l.e.now))
+abbrev pub decreases-check_for : goal.decreases-check_for
+decreases-check_for l = thrice (height (view.plain l.e.now))
 
 abbrev pub decreases-check_operand : goal.decreases-check_operand
 decreases-check_operand l = thrice (height (view.plain l.e.now)) + 1
@@ -16,8 +16,8 @@ decreases-check_operand l = thrice (height (view.plain l.e.now)) + 1
 abbrev pub decreases-check_filled : goal.decreases-check_filled
 decreases-check_filled l = thrice (height (view.plain l.items.now)) + 3
 
-abbrev pub decreases-check_initial : goal.decreases-check_initial
-decreases-check_initial l = thrice (height (view.plain l.e.now)) + 2
+abbrev pub decreases-check_filling : goal.decreases-check_filling
+decreases-check_filling l = thrice (heights (view.plains l.items.now)) + 1
 
 abbrev pub decreases-check_items : goal.decreases-check_items
 decreases-check_items l = thrice (heights (view.plains l.es.now))
