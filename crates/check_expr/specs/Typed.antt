@@ -22,6 +22,7 @@ use Rattle.written_types.specs.Types.{arrays}
 use Rattle.operator_rules.specs.declared.uses.Use.{Use}
 use Rattle.operator_rules.specs.declared.uses.Use.TheVariants as use_
 use Rattle.operator_rules.specs.Uses.{within}
+use Rattle.check_expr.specs.declared.exprs.Literal.{Literal}
 use Rattle.operator_rules.specs.Constants.{number}
 use Rattle.operator_rules.specs.Writtens.{type_said, written}
 use Rattle.member_uses.specs.Targets.{Dotted, AValue, AType, Unknown, dotted, OfThis, OfValue, OfType, OfSuper, field_of, field_of_value, variable, super_field, superclass, called, constructor}
@@ -59,8 +60,11 @@ dotted_call f g u n (AType m c) a x xs = and_then xs (λ xs. called f g u n (OfT
 dotted_call f g u n (Unknown m) a x xs = Broken m.id 26
 
 -- T35
+abbrev pub super_called : Facts → Place → Use → Node → Name → List p.Expr → Checked p.Expr
+super_called f g u n x xs = with_some (superclass f.world g.class) n.id 35 (λ t. called f g u n (OfSuper t) x xs)
+
 abbrev pub super_call : Facts → Place → Use → Node → Name → Checked (List p.Expr) → Checked p.Expr
-super_call f g u n x xs = and_then xs (λ xs. under (not g.is_static) n.id 35 (with_some (superclass f.world g.class) n.id 35 (λ t. called f g u n (OfSuper t) x xs)))
+super_call f g u n x xs = and_then xs (λ xs. under (not g.is_static) n.id 35 (super_called f g u n x xs))
 
 -- T38
 abbrev pub is_concrete : Option TypeInfo → Bool
@@ -79,9 +83,11 @@ abbrev pub new_of : Facts → Place → Node → Checked p.Written → Checked (
 new_of f g n a xs = and_then a (λ w. and_then xs (λ xs. created f g n w xs))
 
 -- T40; `extra` levels stand behind those that have a size
+abbrev pub array_made : Node → p.Written → (extra : ℕ) → List p.Expr → Checked p.Expr
+array_made n w extra xs = under (is_creatable (type_said w)) n.id 40 (under (are_short xs) n.id 40 (Fine (p.At n (arrays (length xs + extra) (type_said w)) (p.NewArray w (row (sizes xs))))))
+
 abbrev pub array_of : Node → Checked p.Written → (extra : ℕ) → Checked (List p.Expr) → Checked p.Expr
-array_of n a extra xs = and_then a (λ w. and_then xs (λ xs. under (is_creatable (type_said w)) n.id 40 (under (are_short xs) n.id 40
-    (Fine (p.At n (arrays (length xs + extra) (type_said w)) (p.NewArray w (row (sizes xs))))))))
+array_of n a extra xs = and_then a (λ w. and_then xs (λ xs. array_made n w extra xs))
 
 -- T41 reads the type alone.
 abbrev pub filled_of : Node → p.Written → Checked p.Expr → Checked p.Expr
@@ -122,54 +128,71 @@ filled n t xs = and_then xs (λ xs. Fine (p.At n t (p.Filled (row xs))))
 
 -- ---- the forms
 
+abbrev pub literal_of : t.Expr → Option Literal
+literal_of (t.Number n k d l) = Some (record { node = n; value = k; decimal = d; long = l })
+literal_of _ = None
+
+abbrev pub behind_minus : Option Literal → Checked p.Expr → Checked p.Expr
+behind_minus None a = a
+behind_minus (Some x) a = number x.node x.value x.decimal x.long true
+
+-- The operand of a sign: a number may be larger by one behind a minus.
+abbrev pub signed : UnOp → t.Expr → Checked p.Expr → Checked p.Expr
+signed un.Minus e a = behind_minus (literal_of e) a
+signed op e a = a
+
+-- items stand where an array is declared or created: T8
+abbrev pub filled_by : Node → JavaType → Option JavaType → (JavaType → Checked (List p.Expr)) → Checked p.Expr
+filled_by n x None xs = Broken n.id 8
+filled_by n x (Some y) xs = filled n x (xs y)
+
 module _ (f : Facts) (g : Place) (ls : List LocalVar) where
   abbrev mutual
-    pub typed : Use → t.Expr → Checked p.Expr
-    typed u (t.Number n k d l) = number n k d l false
-    typed u (t.Char n x) = Fine (p.At n char (p.Char x))
-    typed u (t.Text n x) = Fine (p.At n string (p.Text x))
-    typed u (t.Truth n b) = Fine (p.At n boolean (p.Truth b))
-    typed u (t.Null n) = Fine (p.At n ty.Null p.Null)
-    typed u (t.This n) = this_of g n
-    typed u (t.Name n x) = variable f g u n (find_local ls x) x
-    typed u (t.Field n e x) = dotted_field f g u n (dotted f g ls e) (typed use_.Read e) x
-    typed u (t.SuperField n x) = super_field f g u n x
-    typed u (t.Index n a b) = index n (typed use_.Read a) (typed use_.Read b)
-    typed u (t.Call n of x es) = call u n of x (typeds es)
-    typed u (t.SuperMethod n x es) = super_call f g u n x (typeds es)
-    typed u (t.New n x es) = new_of f g n (written f g x) (typeds es)
-    typed u (t.NewArray n x es k) = array_of n (written f g x) k (typeds es)
-    typed u (t.NewFilled n x e) = and_then (written f g x) (λ w. filled_of n w (initial (type_said w) e))
-    typed u (t.Items n es) = Broken n.id 8
-    typed u (t.Paren n e) = paren n (typed (within u) e)
-    typed u (t.Unary n op e) = unary n op (under_sign op e)
-    typed u (t.Step n up before e) = step f ls n up before (typed use_.Change e)
-    typed u (t.Cast n x k e) = cast f n (written f g x) k (typed use_.Read e)
-    typed u (t.Binary n op a b) = operands f n op (typed use_.Read a) (typed use_.Read b)
-    typed u (t.InstanceOf n e x) = instance_of f n (typed use_.Read e) (written f g x)
-    typed u (t.Cond n a b c) = cond f n (typed use_.Read a) (typed use_.Read b) (typed use_.Read c)
-    typed u (t.Assign n None a b) = assign f g u ls n (typed use_.Set a) (typed use_.Read b)
-    typed u (t.Assign n (Some op) a b) = compound f ls n op (typed use_.Change a) (typed use_.Read b)
+    -- `to` is the type of the variable or item that the value is for, where it stands as one
+    pub typed_for : (to : Option JavaType) → Use → t.Expr → Checked p.Expr
+    typed_for to u (t.Number n k d l) = number n k d l false
+    typed_for to u (t.Char n x) = Fine (p.At n char (p.Char x))
+    typed_for to u (t.Text n x) = Fine (p.At n string (p.Text x))
+    typed_for to u (t.Truth n b) = Fine (p.At n boolean (p.Truth b))
+    typed_for to u (t.Null n) = Fine (p.At n ty.Null p.Null)
+    typed_for to u (t.This n) = this_of g n
+    typed_for to u (t.Name n x) = variable f g u n (find_local ls x) x
+    typed_for to u (t.Field n e x) = dotted_field f g u n (dotted f g ls e) (typed_for None use_.Read e) x
+    typed_for to u (t.SuperField n x) = super_field f g u n x
+    typed_for to u (t.Index n a b) = index n (typed_for None use_.Read a) (typed_for None use_.Read b)
+    typed_for to u (t.Call n of x es) = call u n of x (typeds es)
+    typed_for to u (t.SuperMethod n x es) = super_call f g u n x (typeds es)
+    typed_for to u (t.New n x es) = new_of f g n (written f g x) (typeds es)
+    typed_for to u (t.NewArray n x es k) = array_of n (written f g x) k (typeds es)
+    typed_for to u (t.NewFilled n x e) = and_then (written f g x) (λ w. filled_of n w (typed_for (Some (type_said w)) use_.Read e))
+    typed_for None u (t.Items n es) = Broken n.id 8
+    typed_for (Some x) u (t.Items n es) = filled_by n x (element x) (λ y. items y es)
+    typed_for to u (t.Paren n e) = paren n (typed_for None (within u) e)
+    typed_for to u (t.Unary n op e) = unary n op (signed op e (typed_for None use_.Read e))
+    typed_for to u (t.Step n up before e) = step f ls n up before (typed_for None use_.Change e)
+    typed_for to u (t.Cast n x k e) = cast f n (written f g x) k (typed_for None use_.Read e)
+    typed_for to u (t.Binary n op a b) = operands f n op (typed_for None use_.Read a) (typed_for None use_.Read b)
+    typed_for to u (t.InstanceOf n e x) = instance_of f n (typed_for None use_.Read e) (written f g x)
+    typed_for to u (t.Cond n a b c) = cond f n (typed_for None use_.Read a) (typed_for None use_.Read b) (typed_for None use_.Read c)
+    typed_for to u (t.Assign n None a b) = assign f g u ls n (typed_for None use_.Set a) (typed_for None use_.Read b)
+    typed_for to u (t.Assign n (Some op) a b) = compound f ls n op (typed_for None use_.Change a) (typed_for None use_.Read b)
 
     -- a call, with its arguments
     pub call : Use → Node → t.MaybeExpr → Name → Checked (List p.Expr) → Checked p.Expr
     call u n t.NoExpr x xs = call_here f g u n x xs
-    call u n (t.AnExpr e) x xs = dotted_call f g u n (dotted f g ls e) (typed use_.Read e) x xs
-
-    -- the operand of a sign
-    pub under_sign : UnOp → t.Expr → Checked p.Expr
-    under_sign un.Minus (t.Number n k d l) = number n k d l true
-    under_sign op e = typed use_.Read e
-
-    -- what gives a variable or an item of this type its value: items for an array, or an expression
-    pub initial : JavaType → t.Expr → Checked p.Expr
-    initial x (t.Items n es) = with_some (element x) n.id 8 (λ y. filled n x (items y es))
-    initial x e = typed use_.Read e
+    call u n (t.AnExpr e) x xs = dotted_call f g u n (dotted f g ls e) (typed_for None use_.Read e) x xs
 
     pub items : JavaType → t.Exprs → Checked (List p.Expr)
     items x t.End = Fine []
-    items x (t.Also e es) = and_then (item f x (node_of e).id (initial x e)) (λ y. also y (items x es))
+    items x (t.Also e es) = and_then (item f x (node_of e).id (typed_for (Some x) use_.Read e)) (λ y. also y (items x es))
 
     pub typeds : t.Exprs → Checked (List p.Expr)
     typeds t.End = Fine []
-    typeds (t.Also e es) = and_then (typed use_.Read e) (λ x. also x (typeds es))
+    typeds (t.Also e es) = and_then (typed_for None use_.Read e) (λ x. also x (typeds es))
+
+  abbrev pub typed : Use → t.Expr → Checked p.Expr
+  typed u e = typed_for None u e
+
+  -- what gives a variable of this type its value
+  abbrev pub initial : JavaType → t.Expr → Checked p.Expr
+  initial x e = typed_for (Some x) use_.Read e

@@ -1,10 +1,13 @@
 -- The typing of classes and their members (JLS 8, 9): the core of a class, or the first rule that it breaks.
-use Rattle.std.specs.Prelude.{ℕ, zero, suc, ◌+◌, Bool, true, false, ◌&&◌, ◌||◌, not, List, [], ◌∷◌, ◌++◌, map, filter, length, Option, Some, None, is_none, slice_get, option_and_then, nat_eq, if◌then◌else◌}
+use Rattle.std.specs.Prelude.{ℕ, zero, suc, ◌+◌, Bool, true, false, ◌&&◌, ◌||◌, not, List, [], ◌∷◌, ◌++◌, map, filter, length, Option, Some, None, is_none, slice_get, option_and_then, option_to_list, nat_eq, if◌then◌else◌}
 use Rattle.std.specs.List.{list_any}
 use Rattle.java_tree.specs.declared.tree.Node.{Node}
+use Rattle.java_tree.specs.declared.tree.Mod.{Mod}
 use Rattle.java_tree.specs.declared.tree.Mod.TheVariants as mods
 use Rattle.java_tree.specs.Plain as t
+use Rattle.class_world.specs.declared.world.World.{World}
 use Rattle.class_world.specs.declared.world.TypeInfo.{TypeInfo}
+use Rattle.class_world.specs.declared.world.MethodInfo.{MethodInfo}
 use Rattle.class_world.specs.declared.world.JavaType.{JavaType}
 use Rattle.java_core.specs.declared.program.Implied.{Implied}
 use Rattle.java_core.specs.Plain as p
@@ -18,6 +21,7 @@ use Rattle.member_uses.specs.Targets.{superclass, constructor}
 use Rattle.operator_rules.specs.Writtens.{type_said, written}
 use Rattle.check_expr.specs.Typed.{initial}
 use Rattle.check_stmt.specs.declared.jumps.Jumps.{Jumps}
+use Rattle.check_program.specs.declared.circles.Link.{Link}
 use Rattle.check_stmt.specs.Pieces.{declared}
 use Rattle.check_stmt.specs.Statements.{block, typed_stmts}
 
@@ -57,8 +61,8 @@ abbrev pub fields_of : Facts → Place → (field : ℕ) → JavaType → List t
 fields_of f g k ty [] = Fine []
 fields_of f g k ty (v ∷ vs) = and_then (field_of f g k (arrays v.dims ty) v v.init) (λ x. also x (fields_of f g (k + 1) ty vs))
 
-abbrev pub field_member : Facts → Place → (field : ℕ) → t.FieldDecl → Checked p.Member
-field_member f g k x = and_then (written f g x.ty) (λ w. and_then (fields_of f g k (type_said w) x.vars) (λ vs. Fine (p.Fields x.node w vs)))
+abbrev pub field_member : Facts → Place → (field : ℕ) → Node → t.TypeExpr → List t.Var → Checked p.Member
+field_member f g k n ty vars = and_then (written f g ty) (λ w. and_then (fields_of f g k (type_said w) vars) (λ vs. Fine (p.Fields n w vs)))
 
 -- ---- methods and constructors
 
@@ -113,14 +117,18 @@ body_of f g first ls (Some s) = body_stmt f g first ls s
 abbrev pub method_made : Node → (method : ℕ) → Option Implied → Option p.Written → List p.Param → List p.Written → Option p.Stmt → p.Method
 method_made n k i r ps ts b = record { node = n; method = k; result = r; params = ps; throws = ts; implied = i; body = b }
 
--- `g` is the place in it
-abbrev pub method_in : Facts → Place → (method : ℕ) → t.MethodDecl → Checked p.Method
-method_in f g k m =
-    and_then (implied_of f g m.constructor m.node (begins m.body)) (λ i.
-    and_then (maybe_written f g m.result) (λ r.
-    and_then (params_from f g 0 m.params) (λ ps.
-    and_then (all_written f g m.throws) (λ ts.
-    and_then (body_of f g (may_fill m.constructor (begins m.body)) (map in_scope ps) m.body) (λ b. Fine (method_made m.node k i r ps ts b))))))
+-- the body, behind all before it; `g` is the place in the method
+abbrev pub method_behind : Facts → Place → (method : ℕ) → Node → (constructor : Bool) → Option Implied → Option p.Written → List p.Param → List p.Written → Option t.Stmt → Checked p.Method
+method_behind f g k n constructor i r ps ts body =
+    and_then (body_of f g (may_fill constructor (begins body)) (map in_scope ps) body) (λ b. Fine (method_made n k i r ps ts b))
+
+abbrev pub method_with : Facts → Place → (method : ℕ) → Node → (constructor : Bool) → Option Implied → Option p.Written → List t.Param → List t.TypeExpr → Option t.Stmt → Checked p.Method
+method_with f g k n constructor i r params throws body =
+    and_then (params_from f g 0 params) (λ ps. and_then (all_written f g throws) (λ ts. method_behind f g k n constructor i r ps ts body))
+
+abbrev pub method_in : Facts → Place → (method : ℕ) → Node → (constructor : Bool) → Option t.TypeExpr → List t.Param → List t.TypeExpr → Option t.Stmt → Checked p.Method
+method_in f g k n constructor result params throws body =
+    and_then (implied_of f g constructor n (begins body)) (λ i. and_then (maybe_written f g result) (λ r. method_with f g k n constructor i r params throws body))
 
 -- ---- classes
 
@@ -128,19 +136,37 @@ method_in f g k m =
 abbrev pub in_member : Place → (is_static : Bool) → Option JavaType → Place
 in_member g is_static result = record g { is_static = is_static; in_static = is_static; result = result }
 
-abbrev pub is_static_member : (interface : Bool) → t.FieldDecl → Bool
-is_static_member interface x = interface || has mods.Static x.mods
+abbrev pub is_static_member : (interface : Bool) → List Mod → Bool
+is_static_member interface ms = interface || has mods.Static ms
 
-abbrev pub result_of : Facts → (method : ℕ) → Option JavaType
-result_of f k = option_and_then (λ m. m.result) (slice_get f.world.methods k)
+abbrev pub given_by : Option MethodInfo → Option JavaType
+given_by None = None
+given_by (Some m) = m.result
 
--- `k` is the number of the first field and `m` that of the first method
+abbrev pub result_at : World → (method : ℕ) → Option JavaType
+result_at w k = given_by (slice_get w.methods k)
+
+abbrev pub method_member : Facts → Place → (is_static : Bool) → (method : ℕ) → Node → (constructor : Bool) → Option t.TypeExpr → List t.Param → List t.TypeExpr → Option t.Stmt → Checked p.Member
+method_member f g is_static k n constructor result params throws body =
+    and_then (method_in f (in_member g is_static (result_at f.world k)) k n constructor result params throws body) (λ y. Fine (p.AMethod y))
+
+-- `k` is the number of its first field and `m` its number as a method
+abbrev pub member_in : Facts → Place → (interface : Bool) → (field method : ℕ) → t.Member → Checked p.Member
+member_in f g interface k m (t.AField x) = field_member f (in_member g (is_static_member interface x.mods) None) k x.node x.ty x.vars
+member_in f g interface k m (t.AMethod x) = method_member f g (has mods.Static x.mods) m x.node x.constructor x.result x.params x.throws x.body
+
+-- the numbers of the first field and method behind a member
+abbrev pub next_field : ℕ → t.Member → ℕ
+next_field k (t.AField x) = k + length x.vars
+next_field k (t.AMethod x) = k
+
+abbrev pub next_method : ℕ → t.Member → ℕ
+next_method m (t.AField x) = m
+next_method m (t.AMethod x) = m + 1
+
 abbrev pub members_of : Facts → Place → (interface : Bool) → (field method : ℕ) → List t.Member → Checked (List p.Member)
 members_of f g interface k m [] = Fine []
-members_of f g interface k m (t.AField x ∷ xs) =
-    and_then (field_member f (in_member g (is_static_member interface x) None) k x) (λ y. also y (members_of f g interface (k + length x.vars) m xs))
-members_of f g interface k m (t.AMethod x ∷ xs) =
-    and_then (method_in f (in_member g (has mods.Static x.mods) (result_of f m)) m x) (λ y. also (p.AMethod y) (members_of f g interface k (m + 1) xs))
+members_of f g interface k m (x ∷ xs) = and_then (member_in f g interface k m x) (λ y. also y (members_of f g interface (next_field k x) (next_method m x) xs))
 
 abbrev pub is_constructor : t.Member → Bool
 is_constructor (t.AField x) = false
@@ -150,8 +176,18 @@ is_constructor (t.AMethod x) = x.constructor
 abbrev pub default_of : Facts → Place → t.TypeDecl → Checked (Option Implied)
 default_of f g d = if d.interface || list_any is_constructor d.members then Fine None else implied_super f g d.node
 
-abbrev pub class_made : t.TypeDecl → (number : ℕ) → Option Implied → List p.Written → List p.Written → List p.Member → p.Class
-class_made d c i es is ms = record { node = d.node; number = c; name_end = d.name_end; extends = es; implements = is; members = ms; default = i }
+-- what stands before the members: what the default constructor calls, and the supertypes as they are written
+pub record Heading : Type 0 where
+  pub default : Option Implied
+  pub extends : List p.Written
+  pub implements : List p.Written
+
+abbrev pub heading : Facts → Place → t.TypeDecl → Checked Heading
+heading f g d = and_then (default_of f g d) (λ i. and_then (all_written f g d.extends) (λ es. and_then (all_written f g d.implements) (λ is.
+    Fine (record { default = i; extends = es; implements = is }))))
+
+abbrev pub class_made : t.TypeDecl → (number : ℕ) → Heading → List p.Member → p.Class
+class_made d c h ms = record { node = d.node; number = c; name_end = d.name_end; extends = h.extends; implements = h.implements; members = ms; default = h.default }
 
 -- the number of a class's first method, and of its first field, where it has one
 abbrev pub first_of : List ℕ → ℕ
@@ -160,22 +196,26 @@ first_of (k ∷ ks) = k
 
 -- ---- a constructor that calls itself (8.8.7): the second part of T39, asked where all else in the class is fine
 
--- a call of this(..): the constructor in which it stands, the one that it calls, and its node
-pub record Link : Type 0 where
-  pub from to node : ℕ
+-- the call by this(..) with which a body begins
+abbrev pub link_in : ℕ → p.Stmts → Option Link
+link_in k (p.Then (p.ThisCall n c xs) ss) = Some (record { from = k; to = c; node = n.id })
+link_in k _ = None
 
-abbrev pub links_in : ℕ → p.Stmts → List Link
-links_in k (p.Then (p.ThisCall n c xs) ss) = record { from = k; to = c; node = n.id } ∷ []
-links_in k _ = []
+abbrev pub link_of_stmt : ℕ → p.Stmt → Option Link
+link_of_stmt k (p.Block n ss) = link_in k ss
+link_of_stmt k _ = None
 
-abbrev pub links_of_body : ℕ → Option p.Stmt → List Link
-links_of_body k (Some (p.Block n ss)) = links_in k ss
-links_of_body k _ = []
+abbrev pub link_of_body : ℕ → Option p.Stmt → Option Link
+link_of_body k None = None
+link_of_body k (Some s) = link_of_stmt k s
+
+abbrev pub link_of : p.Member → Option Link
+link_of (p.Fields n w xs) = None
+link_of (p.AMethod m) = link_of_body m.method m.body
 
 abbrev pub links_of : List p.Member → List Link
 links_of [] = []
-links_of (p.Fields n w xs ∷ ms) = links_of ms
-links_of (p.AMethod m ∷ ms) = links_of_body m.method m.body ++ links_of ms
+links_of (m ∷ ms) = option_to_list (link_of m) ++ links_of ms
 
 abbrev pub linked : List Link → ℕ → Option ℕ
 linked [] k = None
@@ -191,17 +231,16 @@ abbrev pub circular : List Link → List Link → Option ℕ
 circular ls [] = None
 circular ls (l ∷ rest) = if leads ls (length ls) l.from (Some l.to) then Some l.node else circular ls rest
 
-abbrev pub without_circle : Option ℕ → p.Class → Checked p.Class
-without_circle None x = Fine x
-without_circle (Some n) x = Broken n 39
+abbrev pub unless_circular : Option ℕ → p.Class → Checked p.Class
+unless_circular None x = Fine x
+unless_circular (Some n) x = Broken n 39
+
+abbrev pub without_circle : t.TypeDecl → (number : ℕ) → Heading → List p.Member → Checked p.Class
+without_circle d c h ms = unless_circular (circular (links_of ms) (links_of ms)) (class_made d c h ms)
 
 abbrev pub class_in : Facts → Place → TypeInfo → t.TypeDecl → Checked p.Class
-class_in f g info d =
-    and_then (default_of f g d) (λ i.
-    and_then (all_written f g d.extends) (λ es.
-    and_then (all_written f g d.implements) (λ is.
-    and_then (members_of f g d.interface (first_of info.fields) (first_of info.methods) d.members) (λ ms.
-    without_circle (circular (links_of ms) (links_of ms)) (class_made d g.class i es is ms)))))
+class_in f g info d = and_then (heading f g d) (λ h.
+    and_then (members_of f g d.interface (first_of info.fields) (first_of info.methods) d.members) (λ ms. without_circle d g.class h ms))
 
 -- ---- the place of a class
 
@@ -210,13 +249,16 @@ abbrev pub blank_vars : (field : ℕ) → List t.Var → List ℕ
 blank_vars k [] = []
 blank_vars k (v ∷ vs) = if is_none v.init then k ∷ blank_vars (k + 1) vs else blank_vars (k + 1) vs
 
-abbrev pub is_blank : (interface : Bool) → t.FieldDecl → Bool
-is_blank interface x = not (is_static_member interface x) && has mods.Final x.mods
+abbrev pub is_blank : (interface : Bool) → List Mod → Bool
+is_blank interface ms = not (is_static_member interface ms) && has mods.Final ms
+
+abbrev pub blanks_in : (interface : Bool) → (field : ℕ) → t.Member → List ℕ
+blanks_in interface k (t.AField x) = if is_blank interface x.mods then blank_vars k x.vars else []
+blanks_in interface k (t.AMethod x) = []
 
 abbrev pub blanks_of : (interface : Bool) → (field : ℕ) → List t.Member → List ℕ
 blanks_of interface k [] = []
-blanks_of interface k (t.AField x ∷ xs) = (if is_blank interface x then blank_vars k x.vars else []) ++ blanks_of interface (k + length x.vars) xs
-blanks_of interface k (t.AMethod x ∷ xs) = blanks_of interface k xs
+blanks_of interface k (x ∷ xs) = blanks_in interface k x ++ blanks_of interface (next_field k x) xs
 
 abbrev pub place_of : (number : ℕ) → TypeInfo → t.TypeDecl → Place
 place_of c info d = record { class = c; vars = d.params; is_static = false; in_static = false; blanks = blanks_of d.interface (first_of info.fields) d.members; result = None }

@@ -18,7 +18,9 @@ use Rattle.java_core.specs.declared.stmt.CoreStmtForm.{CoreStmtForm, out-CoreStm
 use Rattle.java_core.specs.declared.stmt.CoreStmtForm.TheVariants as w
 use Rattle.java_core.specs.declared.stmt.CoreStmtForm.TheOpen as g
 use Rattle.java_core.specs.Plain as p
-use Rattle.java_core.specs.View.{type_row, at_type, written, row, maybe, at_form, at_node, plain, form_plain, plains}
+use Rattle.java_core.specs.declared.stmt.CoreGroup.{CoreGroup}
+use Rattle.java_core.specs.declared.stmt.CoreStmtForm.TheFolds.{fold_out-CoreStmtForm, fold_out-CoreStmt, map-CoreStmtForm}
+use Rattle.java_core.specs.View.{type_row, at_type, written, row, maybe, at_form, at_node, plain, form_plain, plains, catch_row, stmt_form, catch_node, group_node, stmt_node, stmt_plain, stmt_form_plain, catch_plain, group_plain, stmts_plain}
 
 -- a written type, by its parts
 pub type_out : (x : CoreType) → written x ≡ at_type (map-CoreType CoreType p.Written written (out-CoreType x))
@@ -53,3 +55,41 @@ static_call b k xs = form_by _ (f.StaticCall b None k xs) (v.outs-StaticCall b N
 
 pub static_call_on : (b : Before) (x : CoreExpr) (k : ℕ) (xs : List CoreExpr) → form_plain (v.StaticCall b (Some x) k xs) ≡ p.StaticCall b (p.AnExpr (plain x)) k (plains xs)
 static_call_on b x k xs = form_by _ (f.StaticCall b (Some x) k xs) (v.outs-StaticCall b (Some x) k xs)
+
+-- statements that code builds, where an option is inside
+abbrev stmt_level : g.CoreStmtForm-F CoreStmtForm CoreCatch CoreGroup CoreStmt → Node → p.Stmt
+stmt_level L = stmt_form (map-CoreStmtForm CoreStmtForm CoreCatch CoreGroup CoreStmt (Node → p.Stmt) p.Catch p.Group p.Stmt stmt_form_plain catch_plain group_plain stmt_plain L)
+
+pub stmt_out : (x : CoreStmt) → stmt_plain x ≡ stmt_level (out-CoreStmtForm x.form) x.node
+stmt_out x = fold_out-CoreStmt (Node → p.Stmt) p.Catch p.Group p.Stmt stmt_form catch_node group_node stmt_node x
+    ∙ ap (λ z. z x.node) (fold_out-CoreStmtForm (Node → p.Stmt) p.Catch p.Group p.Stmt stmt_form catch_node group_node stmt_node x.form)
+
+stmt_by : (x : CoreStmt) (L : g.CoreStmtForm-F CoreStmtForm CoreCatch CoreGroup CoreStmt) → out-CoreStmtForm x.form ≡ L → stmt_plain x ≡ stmt_level L x.node
+stmt_by x L e = stmt_out x ∙ ap (λ L. stmt_level L x.node) e
+
+pub made_if : (n : Node) (x : CoreExpr) (y : CoreStmt) → stmt_plain (record { node = n; form = w.If x y None }) ≡ p.If n (plain x) (stmt_plain y) p.NoStmt
+made_if n x y = stmt_by _ (g.If x y None) (w.outs-If x y None)
+
+pub made_if_else : (n : Node) (x : CoreExpr) (y z : CoreStmt) → stmt_plain (record { node = n; form = w.If x y (Some z) }) ≡ p.If n (plain x) (stmt_plain y) (p.AStmt (stmt_plain z))
+made_if_else n x y z = stmt_by _ (g.If x y (Some z)) (w.outs-If x y (Some z))
+
+pub made_for : (n : Node) (xs : List CoreStmt) (x : CoreExpr) (ys : List CoreExpr) (y : CoreStmt)
+    → stmt_plain (record { node = n; form = w.For xs (Some x) ys y }) ≡ p.For n (stmts_plain xs) (Some (plain x)) (plains ys) (stmt_plain y)
+made_for n xs x ys y = stmt_by _ (g.For xs (Some x) ys y) (w.outs-For xs (Some x) ys y)
+
+pub made_for_ever : (n : Node) (xs : List CoreStmt) (ys : List CoreExpr) (y : CoreStmt)
+    → stmt_plain (record { node = n; form = w.For xs None ys y }) ≡ p.For n (stmts_plain xs) None (plains ys) (stmt_plain y)
+made_for_ever n xs ys y = stmt_by _ (g.For xs None ys y) (w.outs-For xs None ys y)
+
+pub made_return : (n : Node) (x : CoreExpr) → stmt_plain (record { node = n; form = w.Return (Some x) }) ≡ p.Return n (Some (plain x))
+made_return n x = stmt_by _ (g.Return (Some x)) (w.outs-Return (Some x))
+
+pub made_try : (n : Node) (y : CoreStmt) (cs : List CoreCatch) → stmt_plain (record { node = n; form = w.Try y cs None }) ≡ p.Try n (stmt_plain y) (catch_row (map catch_plain cs)) p.NoStmt
+made_try n y cs = stmt_by _ (g.Try y cs None) (w.outs-Try y cs None)
+
+pub made_try_finally : (n : Node) (y z : CoreStmt) (cs : List CoreCatch)
+    → stmt_plain (record { node = n; form = w.Try y cs (Some z) }) ≡ p.Try n (stmt_plain y) (catch_row (map catch_plain cs)) (p.AStmt (stmt_plain z))
+made_try_finally n y z cs = stmt_by _ (g.Try y cs (Some z)) (w.outs-Try y cs (Some z))
+
+pub made_return_void : (n : Node) → stmt_plain (record { node = n; form = w.Return None }) ≡ p.Return n None
+made_return_void n = stmt_by _ (g.Return None) (w.outs-Return None)

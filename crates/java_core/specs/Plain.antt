@@ -8,7 +8,7 @@ use Rattle.java_tree.specs.declared.tree.BinOp.{BinOp}
 use Rattle.class_world.specs.declared.world.JavaType.{JavaType}
 use Rattle.java_core.specs.declared.expr.Kind.{Kind}
 use Rattle.java_core.specs.declared.expr.Before.{Before}
-use Rattle.java_core.specs.declared.program.Implied.{Implied}
+use Rattle.java_core.specs.declared.program.Implied as implied
 
 mutual
   -- a written type: its node, the place of its head, what it says, and its arguments
@@ -84,7 +84,7 @@ pub record Param : Type 0 where
 mutual
   pub data Stmt : Type 0 where
     Block : Node → Stmts → Stmt
-    Local : Node → (is_final : Bool) → Written → List Var → Stmt
+    Locals : Node → (is_final : Bool) → Written → List Var → Stmt
     Empty : Node → Stmt
     Value : Node → Expr → Stmt
     If : Node → Expr → Stmt → MaybeStmt → Stmt
@@ -99,7 +99,7 @@ mutual
     Throw : Node → Expr → Stmt
     Try : Node → Stmt → Catches → MaybeStmt → Stmt
     ThisCall : Node → (constructor : ℕ) → Exprs → Stmt
-    SuperCall : Node → (constructor : ℕ) → Exprs → Stmt
+    SuperFirst : Node → (constructor : ℕ) → Exprs → Stmt
 
   pub data MaybeStmt : Type 0 where
     NoStmt : MaybeStmt
@@ -124,7 +124,7 @@ mutual
     NoCatch : Catches
     AndCatch : Catch → Catches → Catches
 
-pub record Field : Type 0 where
+pub record FieldVar : Type 0 where
   pub node : Node
   pub field : ℕ
   pub init : Option Expr
@@ -135,11 +135,11 @@ pub record Method : Type 0 where
   pub result : Option Written
   pub params : List Param
   pub throws : List Written
-  pub implied : Option Implied
+  pub implied : Option implied.Implied
   pub body : Option Stmt
 
 pub data Member : Type 0 where
-  Fields : Node → Written → List Field → Member
+  Fields : Node → Written → List FieldVar → Member
   AMethod : Method → Member
 
 pub record Class : Type 0 where
@@ -149,8 +149,12 @@ pub record Class : Type 0 where
   pub extends : List Written
   pub implements : List Written
   pub members : List Member
-  pub default : Option Implied
+  pub default : Option implied.Implied
 
--- the declared types of all files, in order
-pub record Program : Type 0 where
+-- the types that a file declares, in order
+pub record File : Type 0 where
   pub classes : List Class
+
+-- user files before library files
+pub record Program : Type 0 where
+  pub files : List File

@@ -24,9 +24,10 @@ use Rattle.java_core.specs.declared.program.CoreMethod as declared_method
 use Rattle.java_core.specs.declared.program.CoreMember as declared_member
 use Rattle.java_core.specs.declared.program.CoreMember.TheVariants as m
 use Rattle.java_core.specs.declared.program.CoreClass as declared_class
+use Rattle.java_core.specs.declared.program.CoreFile as declared_file
 use Rattle.java_core.specs.declared.program.CoreProgram as declared_program
 use Rattle.java_core.specs.Plain as p
-use Rattle.java_core.specs.Plain.{Written, Writtens, Expr, Form, MaybeExpr, Exprs, Var, Param, Stmt, MaybeStmt, Stmts, Group, Groups, Catch, Catches, Field, Method, Member, Class, Program}
+use Rattle.java_core.specs.Plain.{Written, Writtens, Expr, Form, MaybeExpr, Exprs, Var, Param, Stmt, MaybeStmt, Stmts, Group, Groups, Catch, Catches, FieldVar, Method, Member, Class, File, Program}
 
 -- ---- written types
 
@@ -120,9 +121,9 @@ abbrev pub catch_row : List Catch → Catches
 catch_row [] = p.NoCatch
 catch_row (x ∷ xs) = p.AndCatch x (catch_row xs)
 
-abbrev pub stmt_form : CoreStmtForm-F Catch Group Stmt (Node → Stmt) → Node → Stmt
+abbrev pub stmt_form : CoreStmtForm-F (Node → Stmt) Catch Group Stmt → Node → Stmt
 stmt_form (s.Block xs) n = p.Block n (stmt_row xs)
-stmt_form (s.Local f ty xs) n = p.Local n f (written ty) (map var_plain xs)
+stmt_form (s.Local f ty xs) n = p.Locals n f (written ty) (map var_plain xs)
 stmt_form s.Empty n = p.Empty n
 stmt_form (s.Value x) n = p.Value n (plain x)
 stmt_form (s.If x a b) n = p.If n (plain x) a (stmt_maybe b)
@@ -137,35 +138,35 @@ stmt_form (s.Return x) n = p.Return n (option_map plain x)
 stmt_form (s.Throw x) n = p.Throw n (plain x)
 stmt_form (s.Try a cs b) n = p.Try n a (catch_row cs) (stmt_maybe b)
 stmt_form (s.ThisCall k xs) n = p.ThisCall n k (row (map plain xs))
-stmt_form (s.SuperCall k xs) n = p.SuperCall n k (row (map plain xs))
+stmt_form (s.SuperCall k xs) n = p.SuperFirst n k (row (map plain xs))
 
-abbrev pub catch_node : CoreCatch-F Catch Group Stmt (Node → Stmt) → Catch
+abbrev pub catch_node : CoreCatch-F (Node → Stmt) Catch Group Stmt → Catch
 catch_node x = p.Caught x.node (param_plain x.param) x.body
 
-abbrev pub group_node : CoreGroup-F Catch Group Stmt (Node → Stmt) → Group
+abbrev pub group_node : CoreGroup-F (Node → Stmt) Catch Group Stmt → Group
 group_node x = p.Labelled x.node x.labels (stmt_row x.body)
 
-abbrev pub stmt_node : CoreStmt-F Catch Group Stmt (Node → Stmt) → Stmt
+abbrev pub stmt_node : CoreStmt-F (Node → Stmt) Catch Group Stmt → Stmt
 stmt_node x = x.form x.node
 
 abbrev pub stmt_plain : declared_stmt.CoreStmt → Stmt
-stmt_plain = fold-CoreStmt Catch Group Stmt (Node → Stmt) catch_node group_node stmt_node stmt_form
+stmt_plain = fold-CoreStmt (Node → Stmt) Catch Group Stmt stmt_form catch_node group_node stmt_node
 
 abbrev pub stmt_form_plain : declared_stmt_form.CoreStmtForm → Node → Stmt
-stmt_form_plain = fold-CoreStmtForm Catch Group Stmt (Node → Stmt) catch_node group_node stmt_node stmt_form
+stmt_form_plain = fold-CoreStmtForm (Node → Stmt) Catch Group Stmt stmt_form catch_node group_node stmt_node
 
 abbrev pub group_plain : declared_group.CoreGroup → Group
-group_plain = fold-CoreGroup Catch Group Stmt (Node → Stmt) catch_node group_node stmt_node stmt_form
+group_plain = fold-CoreGroup (Node → Stmt) Catch Group Stmt stmt_form catch_node group_node stmt_node
 
 abbrev pub catch_plain : declared_catch.CoreCatch → Catch
-catch_plain = fold-CoreCatch Catch Group Stmt (Node → Stmt) catch_node group_node stmt_node stmt_form
+catch_plain = fold-CoreCatch (Node → Stmt) Catch Group Stmt stmt_form catch_node group_node stmt_node
 
 abbrev pub stmts_plain : List declared_stmt.CoreStmt → Stmts
 stmts_plain xs = stmt_row (map stmt_plain xs)
 
 -- ---- classes and their members
 
-abbrev pub field_plain : declared_field.CoreField → Field
+abbrev pub field_plain : declared_field.CoreField → FieldVar
 field_plain x = record { node = x.node; field = x.field; init = option_map plain x.init }
 
 abbrev pub method_plain : declared_method.CoreMethod → Method
@@ -194,5 +195,8 @@ class_plain x = record {
   default = x.default;
 }
 
+abbrev pub file_plain : declared_file.CoreFile → File
+file_plain x = record { classes = map class_plain x.classes }
+
 abbrev pub program_plain : declared_program.CoreProgram → Program
-program_plain x = record { classes = map class_plain x.classes }
+program_plain x = record { files = map file_plain x.files }

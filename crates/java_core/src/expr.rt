@@ -15,12 +15,12 @@ pub enum Kind {
     Text,
 }
 
-/// What stands before the dot of a static use, where that is no expression: a type's name with its node.
+/// What stands before the dot of a static use, where that is no expression: a type's name, with its node and the type's number.
 #[derive(Clone, Copy, Debug, PartialEq, Eq)]
 pub enum Before {
     Nothing,
     Super,
-    Type(Node),
+    Type(Node, u32),
 }
 
 /// An expression: its node, its type and what it is. A conversion has the node of its value. A call of a void method has the null type, and stands only where no

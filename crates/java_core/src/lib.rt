@@ -7,6 +7,6 @@ pub mod stmt;
 pub mod written;
 
 pub use expr::{Before, CoreExpr, CoreForm, Kind};
-pub use program::{CoreClass, CoreField, CoreMember, CoreMethod, CoreProgram, Implied};
+pub use program::{CoreClass, CoreField, CoreFile, CoreMember, CoreMethod, CoreProgram, Implied};
 pub use stmt::{CoreCatch, CoreGroup, CoreParam, CoreStmt, CoreStmtForm, CoreVar};
 pub use written::CoreType;

@@ -56,8 +56,14 @@ pub struct CoreClass {
     pub default: Option<Implied>,
 }
 
-/// The declared types of all files, in order.
+/// The types that a file declares, in order.
+#[derive(Drop)]
+pub struct CoreFile {
+    pub classes: Items<CoreClass>,
+}
+
+/// The files of a program, user files before library files.
 #[derive(Drop)]
 pub struct CoreProgram {
-    pub classes: Items<CoreClass>,
+    pub files: Items<CoreFile>,
 }

@@ -75,18 +75,24 @@ abbrev pub type_or_not : Node → Option ℕ → Dotted
 type_or_not n None = Unknown n
 type_or_not n (Some c) = AType n c
 
+abbrev pub dotted_name : Facts → Place → List LocalVar → Node → Name → Dotted
+dotted_name f g ls n x = if is_variable f g ls x then AValue else type_or_not n (f.mean x)
+
 abbrev pub dotted : Facts → Place → List LocalVar → t.Expr → Dotted
-dotted f g ls (t.Name n x) = if is_variable f g ls x then AValue else type_or_not n (f.mean x)
+dotted f g ls (t.Name n x) = dotted_name f g ls n x
 dotted f g ls _ = AValue
 
 -- ---- fields
 
+abbrev pub value_field : p.Expr → (is_static : Bool) → ℕ → p.Form
+value_field x true k = p.StaticField before_.Nothing (p.AnExpr x) k
+value_field x false k = p.Field x false k
+
 abbrev pub field_form : Place → Node → Receiver → (is_static : Bool) → ℕ → p.Form
 field_form g n OfThis true k = p.StaticField before_.Nothing p.NoExpr k
 field_form g n OfThis false k = p.Field (p.At n (own_type g) p.This) true k
-field_form g n (OfValue x) true k = p.StaticField before_.Nothing (p.AnExpr x) k
-field_form g n (OfValue x) false k = p.Field x false k
-field_form g n (OfType m c) is_static k = p.StaticField (before_.Type m) p.NoExpr k
+field_form g n (OfValue x) is_static k = value_field x is_static k
+field_form g n (OfType m c) is_static k = p.StaticField (before_.Type m c) p.NoExpr k
 field_form g n (OfSuper t) true k = p.StaticField before_.Super p.NoExpr k
 field_form g n (OfSuper t) false k = p.SuperField k
 
@@ -98,9 +104,12 @@ access f false n d t x = p.At n t x
 abbrev pub is_static_field : FieldInfo → Bool
 is_static_field i = has mods.Static i.mods
 
+-- the type of a field as it is used
+abbrev pub field_type : Facts → Place → Receiver → FieldInfo → JavaType
+field_type f g r i = as_seen (seen_by f (receiver_type g r) i.owner (is_static_field i)) i.ty
+
 abbrev pub field_made : Facts → Place → Use → Node → Receiver → ℕ → FieldInfo → p.Expr
-field_made f g u n r k i =
-    access f (is_read u) n i.ty (as_seen (seen_by f (receiver_type g r) i.owner (is_static_field i)) i.ty) (field_form g n r (is_static_field i) k)
+field_made f g u n r k i = access f (is_read u) n i.ty (field_type f g r i) (field_form g n r (is_static_field i) k)
 
 -- whether a field may be used so: by its simple name an instance field wants `this`; by a type's name it is static; by `super` it wants `this`
 abbrev pub may_have_field : Place → Receiver → (is_static : Bool) → Bool
@@ -114,18 +123,23 @@ abbrev pub can_access_field : Facts → Place → Receiver → ℕ → Bool
 can_access_field f g OfThis k = true
 can_access_field f g r k = f.sees g.class (declared.Field k)
 
+abbrev pub field_numbered : Facts → Place → Use → Node → (rule : ℕ) → Receiver → ℕ → Checked p.Expr
+field_numbered f g u n rule r k = with_some (slice_get f.world.fields k) n.id rule (λ i.
+    under (can_access_field f g r k) n.id rule (under (may_have_field g r (is_static_field i)) n.id rule (Fine (field_made f g u n r k i))))
+
 -- the field that a name means, and the rule on it
 abbrev pub field_of : Facts → Place → Use → Node → (rule : ℕ) → Receiver → Name → Checked p.Expr
-field_of f g u n rule r x = with_some (f.field (receiver_type g r) x) n.id rule (λ k. with_some (slice_get f.world.fields k) n.id rule (λ i.
-    under (can_access_field f g r k) n.id rule (under (may_have_field g r (is_static_field i)) n.id rule (Fine (field_made f g u n r k i)))))
+field_of f g u n rule r x = with_some (f.field (receiver_type g r) x) n.id rule (λ k. field_numbered f g u n rule r k)
 
 -- `length` of an array (10.7): T29
 abbrev pub is_length : Facts → p.Expr → Name → Bool
 is_length f x name = is_some (element (ty_of x)) && nat_eq name.0 f.length_name.0
 
+abbrev pub length_of : Use → Node → p.Expr → Checked p.Expr
+length_of u n x = under (not (is_set u)) n.id 29 (Fine (p.At n int (p.Length x)))
+
 abbrev pub field_of_value : Facts → Place → Use → Node → p.Expr → Name → Checked p.Expr
-field_of_value f g u n x name =
-    if is_length f x name then under (not (is_set u)) n.id 29 (Fine (p.At n int (p.Length x))) else field_of f g u n 27 (OfValue x) name
+field_of_value f g u n x name = if is_length f x name then length_of u n x else field_of f g u n 27 (OfValue x) name
 
 abbrev pub local : Node → LocalVar → p.Expr
 local n l = p.At n l.ty (p.Local l.slot)
@@ -174,14 +188,20 @@ reachable f g (OfValue x) ks = accessible f g ks
 reachable f g (OfType n c) ks = accessible f g ks
 reachable f g (OfSuper t) ks = accessible f g ks
 
+abbrev pub value_call : p.Expr → (is_static : Bool) → ℕ → List p.Expr → p.Form
+value_call x true k xs = p.StaticCall before_.Nothing (p.AnExpr x) k (row xs)
+value_call x false k xs = p.Call x false k (row xs)
+
+abbrev pub super_call : (is_static : Bool) → ℕ → List p.Expr → p.Form
+super_call true k xs = p.StaticCall before_.Super p.NoExpr k (row xs)
+super_call false k xs = p.SuperCall k (row xs)
+
 abbrev pub call_form : Place → Node → Receiver → (is_static : Bool) → ℕ → List p.Expr → p.Form
 call_form g n OfThis true k xs = p.StaticCall before_.Nothing p.NoExpr k (row xs)
 call_form g n OfThis false k xs = p.Call (p.At n (own_type g) p.This) true k (row xs)
-call_form g n (OfValue x) true k xs = p.StaticCall before_.Nothing (p.AnExpr x) k (row xs)
-call_form g n (OfValue x) false k xs = p.Call x false k (row xs)
-call_form g n (OfType m c) is_static k xs = p.StaticCall (before_.Type m) p.NoExpr k (row xs)
-call_form g n (OfSuper t) true k xs = p.StaticCall before_.Super p.NoExpr k (row xs)
-call_form g n (OfSuper t) false k xs = p.SuperCall k (row xs)
+call_form g n (OfValue x) is_static k xs = value_call x is_static k xs
+call_form g n (OfType m c) is_static k xs = p.StaticCall (before_.Type m c) p.NoExpr k (row xs)
+call_form g n (OfSuper t) is_static k xs = super_call is_static k xs
 
 -- an argument fits its parameter by an unchecked conversion alone
 abbrev pub some_unchecked : Facts → List p.Expr → List JavaType → Bool
@@ -220,15 +240,24 @@ may_call f g (OfValue x) m = true
 may_call f g (OfType n c) m = is_static_method m
 may_call f g (OfSuper t) m = not (is_abstract f.world m)
 
+-- only a statement calls a void method
+abbrev pub may_answer : Use → MethodInfo → Bool
+may_answer u m = is_some m.result || is_performed u
+
 -- T6, then those
 abbrev pub judged : Facts → Place → Use → Node → Receiver → Candidate → MethodInfo → List p.Expr → Checked p.Expr
-judged f g u n r c m xs = under (is_some m.result || is_performed u) n.id 6 (under (may_call f g r m) n.id (call_rule r) (Fine (call_made f g n r c m xs)))
+judged f g u n r c m xs = under (may_answer u m) n.id 6 (under (may_call f g r m) n.id (call_rule r) (Fine (call_made f g n r c m xs)))
+
+-- the method that a call chooses
+abbrev pub choice : Facts → Place → Receiver → Name → List p.Expr → Option Candidate
+choice f g r x xs = chosen f (map ty_of xs) (candidates f (receiver_type g r) (reachable f g r (named_in f (holder (receiver_type g r)) x (length xs))))
+
+abbrev pub called_by : Facts → Place → Use → Node → Receiver → Candidate → List p.Expr → Checked p.Expr
+called_by f g u n r c xs = with_some (slice_get f.world.methods c.method) n.id 36 (λ m. judged f g u n r c m xs)
 
 -- T36
 abbrev pub called : Facts → Place → Use → Node → Receiver → Name → List p.Expr → Checked p.Expr
-called f g u n r x xs = with_some
-    (chosen f (map ty_of xs) (candidates f (receiver_type g r) (reachable f g r (named_in f (holder (receiver_type g r)) x (length xs)))))
-    n.id 36 (λ c. with_some (slice_get f.world.methods c.method) n.id 36 (λ m. judged f g u n r c m xs))
+called f g u n r x xs = with_some (choice f g r x xs) n.id 36 (λ c. called_by f g u n r c xs)
 
 -- ---- constructors
 

@@ -25,9 +25,22 @@ lone [] = None
 lone (c ∷ []) = Some c
 lone (c ∷ d ∷ cs) = None
 
+-- one that was met before, and these
+abbrev pub lone_after : Option Candidate → List Candidate → Option Candidate
+lone_after None cs = lone cs
+lone_after (Some c) [] = Some c
+lone_after (Some c) (d ∷ cs) = None
+
+-- the first is as specific as the second, where that takes the arguments
+abbrev pub is_ahead : Facts → (args : List JavaType) → Candidate → Candidate → Bool
+is_ahead f args c d = not (applies f args d) || is_as_specific f c d
+
+abbrev pub is_most_specific : Facts → (args : List JavaType) → List Candidate → Candidate → Bool
+is_most_specific f args cs c = list_all (is_ahead f args c) cs
+
 -- it takes the arguments, and is as specific as each other candidate that does
 abbrev pub is_best : Facts → (args : List JavaType) → List Candidate → Candidate → Bool
-is_best f args cs c = applies f args c && list_all (λ d. not (applies f args d) || is_as_specific f c d) cs
+is_best f args cs c = applies f args c && is_most_specific f args cs c
 
 -- the one candidate that is
 abbrev pub chosen : Facts → (args : List JavaType) → List Candidate → Option Candidate

@@ -3,4 +3,4 @@
 
 mod choice;
 
-pub use choice::{Candidate, chosen};
+pub use choice::{Candidate, Params, chosen};

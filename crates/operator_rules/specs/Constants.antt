@@ -1,5 +1,5 @@
 -- Literals (JLS 3.10, 15.8.1).
-use Rattle.std.specs.Prelude.{ℕ, ℤ, pos, ◌-◌, ◌-ℤ◌, ◌^◌, Bool, true, false, ◌||◌, ◌&&◌, not, nat_lt, nat_eq, if◌then◌else◌}
+use Rattle.std.specs.Prelude.{ℕ, ℤ, pos, ◌-◌, ◌-ℤ◌, ◌^◌, Bool, true, false, ◌||◌, ◌&&◌, nat_lt, nat_eq, if◌then◌else◌}
 use Rattle.java_tree.specs.declared.tree.Node.{Node}
 use Rattle.java_core.specs.Plain as p
 use Rattle.type_kinds.specs.Kinds.{int, long}

@@ -1,14 +1,17 @@
 -- Written types in bodies (JLS 4.3 to 4.5, 6.5.5): T1 to T3.
-use Rattle.std.specs.Prelude.{ℕ, zero, suc, Bool, true, false, not, List, [], ◌∷◌, length, Option, Some, None, slice_get, nat_eq, ◌+◌}
+use Rattle.std.specs.Prelude.{ℕ, zero, suc, Bool, true, false, not, List, [], ◌∷◌, map, Option, Some, None, slice_get, nat_eq, ◌+◌}
 use Rattle.std.specs.Option.{option_map}
 use Rattle.java_tree.specs.declared.tree.Node.{Node}
+use Rattle.java_tree.specs.declared.tree.Span.{Span}
 use Rattle.java_tree.specs.declared.tree.Name.{Name}
 use Rattle.java_tree.specs.declared.tree.Head.{Head}
 use Rattle.java_tree.specs.declared.tree.Head.TheVariants as head
 use Rattle.java_tree.specs.Plain as t
+use Rattle.class_world.specs.declared.world.World.{World}
 use Rattle.class_world.specs.declared.world.JavaType.{JavaType}
 use Rattle.class_world.specs.declared.world.JavaType.TheVariants as ty
 use Rattle.java_core.specs.Plain as p
+use Rattle.java_core.specs.View.{type_row}
 use Rattle.checked.specs.Checked.{Checked, Fine, Broken, and_then, under, also}
 use Rattle.written_types.specs.declared.scope.Named.{Named}
 use Rattle.written_types.specs.declared.scope.Named.TheVariants as named
@@ -37,12 +40,16 @@ takes params zero = true
 takes None (suc k) = false
 takes (Some n) (suc k) = nat_eq n (suc k)
 
+-- how many parameters the type of a number has
+abbrev pub params_at : World → ℕ → Option ℕ
+params_at w c = option_map (λ info. info.params) (slice_get w.types c)
+
 -- the first rule that is broken at the written type itself, where it has so many arguments: T1 that it names a type, T2 the number of arguments, T3 that no type
 -- parameter stands in a static member
 abbrev pub well_named : Facts → Place → (node : ℕ) → Named → (arguments : ℕ) → Checked Named
 well_named f g n (named.Primitive q) k = under (takes None k) n 2 (Fine (named.Primitive q))
 well_named f g n (named.Variable v) k = under (takes None k) n 2 (under (not g.in_static) n 3 (Fine (named.Variable v)))
-well_named f g n (named.Type c) k = under (takes (option_map (λ info. info.params) (slice_get f.world.types c)) k) n 2 (Fine (named.Type c))
+well_named f g n (named.Type c) k = under (takes (params_at f.world c) k) n 2 (Fine (named.Type c))
 well_named f g n named.Nothing k = Broken n 1
 
 abbrev pub said : Named → List JavaType → JavaType
@@ -54,22 +61,16 @@ said named.Nothing args = ty.Null
 abbrev pub type_said : p.Written → JavaType
 type_said (p.AType n h x args) = x
 
-abbrev pub types_said : p.Writtens → List JavaType
-types_said p.NoTypes = []
-types_said (p.AndType x xs) = type_said x ∷ types_said xs
-
-abbrev pub row : List p.Written → p.Writtens
-row [] = p.NoTypes
-row (x ∷ xs) = p.AndType x (row xs)
-
 abbrev pub count : t.TypeExprs → ℕ
 count t.NoTypes = 0
 count (t.AndType x xs) = count xs + 1
 
+abbrev pub made : Node → (head : Span) → (levels : ℕ) → Named → List p.Written → p.Written
+made n s d x args = p.AType n s (arrays d (said x (map type_said args))) (type_row args)
+
 abbrev mutual
   pub written : Facts → Place → t.TypeExpr → Checked p.Written
-  written f g (t.Written n h s xs d) = and_then (well_named f g n.id (head_named f g h) (count xs)) (λ x. and_then (writtens f g xs) (λ args.
-      Fine (p.AType n s (arrays d (said x (types_said (row args)))) (row args))))
+  written f g (t.Written n h s xs d) = and_then (well_named f g n.id (head_named f g h) (count xs)) (λ x. and_then (writtens f g xs) (λ args. Fine (made n s d x args)))
 
   pub writtens : Facts → Place → t.TypeExprs → Checked (List p.Written)
   writtens f g t.NoTypes = Fine []

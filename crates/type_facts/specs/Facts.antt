@@ -10,7 +10,7 @@ use Rattle.class_world.specs.Access.{Sees}
 use Rattle.class_world.specs.Counted.{IsCountedNamed}
 use Rattle.class_world.specs.Inheritance.{FieldIs}
 use Rattle.class_world.specs.Sound.{IsKnown, IsSound}
-use Rattle.class_world.specs.Subtypes.{Fits, IsSuperAs, IsUnchecked, Subtype}
+use Rattle.class_world.specs.Subtypes.{Fits, IsUnchecked, Subtype}
 use Rattle.type_names.specs.declared.known.JavaNames.{JavaNames}
 use Rattle.type_names.specs.Known.{File}
 use Rattle.type_names.specs.Sees.{meant}
@@ -18,7 +18,7 @@ use Rattle.type_names.specs.Tables.{StandsFor}
 use Rattle.member_table.specs.Table.{HoldsMembers}
 use Rattle.type_facts.specs.declared.questions.Questions.{Questions}
 use Rattle.type_kinds.specs.Casts.{Castable}
-use Rattle.type_kinds.specs.OfWorld.{AreBoth, HasSupers}
+use Rattle.type_kinds.specs.OfWorld.{AreBoth, SuperIs}
 
 -- In a file of a program: its world; the name `length`; the type that a name means, by number; whether a value fits a variable, a type is below another, fits by an
 -- unchecked conversion alone, can be cast; the supertype of a type with this class; the field that a name means in a type; the members of a type that count, by name
@@ -35,9 +35,6 @@ pub record Facts : Type 0 where
   pub field : JavaType → Name → Option ℕ
   pub methods : ℕ → Name → (arity : ℕ) → List ℕ
   pub sees : ℕ → Declared → Bool
-
-abbrev pub SuperIs : World → JavaType → ℕ → Option JavaType → Type 0
-SuperIs w t g r = (HasSupers w t → IsSuperAs w t g r) × ((HasSupers w t → ⊥) → r ≡ None)
 
 abbrev pub MethodsAre : World → ℕ → Name → ℕ → List ℕ → Type 0
 MethodsAre w c x n ms = (IsKnown w c → ((m : ℕ) → Contains ms m ↔ IsCountedNamed w c x n m) × IsStrictlyIncreasing ms) × ((IsKnown w c → ⊥) → ms ≡ [])

@@ -1,9 +1,6 @@
 -- Members as a type has them: what their declared types are there (JLS 4.5.2, 4.8).
-use Rattle.std.specs.Prelude.{ℕ, Bool, true, false, ◌&&◌, not, List, [], ◌∷◌, Option, Some, None, slice_get, nat_lt, if◌then◌else◌}
-use Rattle.std.specs.List.{list_any}
+use Rattle.std.specs.Prelude.{ℕ, Bool, true, false, [], ◌∷◌, Option, Some, None, slice_get, nat_lt, if◌then◌else◌}
 use Rattle.java_tree.specs.declared.tree.Node.{Node}
-use Rattle.java_tree.specs.declared.tree.Mod.{Mod}
-use Rattle.java_tree.specs.declared.tree.Mod.TheVariants as mods
 use Rattle.class_world.specs.declared.world.World.{World}
 use Rattle.class_world.specs.declared.world.TypeInfo.{TypeInfo}
 use Rattle.class_world.specs.declared.world.JavaType.{JavaType, out-JavaType}
@@ -26,6 +23,10 @@ abbrev pub params_of : Option TypeInfo → ℕ
 params_of None = 0
 params_of (Some info) = info.params
 
+-- how many type parameters the class of this number declares
+abbrev pub params_at : World → ℕ → ℕ
+params_at w c = params_of (slice_get w.types c)
+
 -- ---- declared types, as a type sees them
 
 abbrev pub through_form : JavaType-F JavaType → (params : ℕ) → Seen
@@ -41,7 +42,7 @@ through (Some t) n = through_form (out-JavaType t) n
 -- How t sees what the class o declares. A static member is seen as it is declared.
 abbrev pub seen_by : Facts → JavaType → (o : ℕ) → (is_static : Bool) → Seen
 seen_by f t o true = seen.Put []
-seen_by f t o false = through (f.super_as t o) (params_of (slice_get f.world.types o))
+seen_by f t o false = through (f.super_as t o) (params_at f.world o)
 
 abbrev pub as_seen : Seen → JavaType → JavaType
 as_seen seen.Erased t = erased t

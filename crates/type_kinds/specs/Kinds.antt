@@ -1,5 +1,5 @@
 -- Kinds of types, and the types that operators work on (JLS 4.2, 4.3, 5.6).
-use Rattle.std.specs.Prelude.{ℕ, Bool, true, false, ◌&&◌, ◌||◌, not, List, [], Option, Some, None, is_some, ◌==◌, if◌then◌else◌}
+use Rattle.std.specs.Prelude.{ℕ, Bool, true, false, ◌||◌, not, List, [], ◌∷◌, Option, Some, None, is_some, ◌==◌, if◌then◌else◌}
 use Rattle.std.specs.List.{list_any}
 use Rattle.java_tree.specs.declared.tree.Mod.{Mod}
 use Rattle.java_tree.specs.declared.tree.Mod.TheVariants as mods
@@ -167,6 +167,12 @@ widened_if true t (p.At n u f) = p.At n t (p.Widen (p.At n u f))
 -- A primitive that goes to one of another type is widened (5.1.2).
 abbrev pub converted : JavaType → p.Expr → p.Expr
 converted t x = widened_if (differ (primitive t) (primitive (ty_of x))) t x
+
+-- each argument, for its parameter's type
+abbrev pub converted_all : List JavaType → List p.Expr → List p.Expr
+converted_all [] xs = []
+converted_all (t ∷ ts) [] = []
+converted_all (t ∷ ts) (x ∷ xs) = converted t x ∷ converted_all ts xs
 
 -- an operand of an operator on numbers
 abbrev pub operand : Kind → p.Expr → p.Expr
