@@ -101,15 +101,16 @@ abbrev pub access : Facts → Bool → Node → (declared t : JavaType) → p.Fo
 access f true n d t x = accessed f n d t x
 access f false n d t x = p.At n t x
 
-abbrev pub is_static_field : FieldInfo → Bool
-is_static_field i = has mods.Static i.mods
+-- each field of an interface is static (9.3)
+abbrev pub is_static_field : World → FieldInfo → Bool
+is_static_field w i = has mods.Static i.mods || is_interface w i.owner
 
 -- the type of a field as it is used
 abbrev pub field_type : Facts → Place → Receiver → FieldInfo → JavaType
-field_type f g r i = as_seen (seen_by f (receiver_type g r) i.owner (is_static_field i)) i.ty
+field_type f g r i = as_seen (seen_by f (receiver_type g r) i.owner (is_static_field f.world i)) i.ty
 
 abbrev pub field_made : Facts → Place → Use → Node → Receiver → ℕ → FieldInfo → p.Expr
-field_made f g u n r k i = access f (is_read u) n i.ty (field_type f g r i) (field_form g n r (is_static_field i) k)
+field_made f g u n r k i = access f (is_read u) n i.ty (field_type f g r i) (field_form g n r (is_static_field f.world i) k)
 
 -- whether a field may be used so: by its simple name an instance field wants `this`; by a type's name it is static; by `super` it wants `this`
 abbrev pub may_have_field : Place → Receiver → (is_static : Bool) → Bool
@@ -125,7 +126,7 @@ can_access_field f g r k = f.sees g.class (declared.Field k)
 
 abbrev pub field_numbered : Facts → Place → Use → Node → (rule : ℕ) → Receiver → ℕ → Checked p.Expr
 field_numbered f g u n rule r k = with_some (slice_get f.world.fields k) n.id rule (λ i.
-    under (can_access_field f g r k) n.id rule (under (may_have_field g r (is_static_field i)) n.id rule (Fine (field_made f g u n r k i))))
+    under (can_access_field f g r k) n.id rule (under (may_have_field g r (is_static_field f.world i)) n.id rule (Fine (field_made f g u n r k i))))
 
 -- the field that a name means, and the rule on it
 abbrev pub field_of : Facts → Place → Use → Node → (rule : ℕ) → Receiver → Name → Checked p.Expr

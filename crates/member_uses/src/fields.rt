@@ -12,7 +12,7 @@ ghost use Rattle.member_uses.specs.Targets as spec;
 use crate::receiver::{Receiver, receiver_type};
 use crate::supers::superclass;
 use checked::Stop;
-use class_world::{Declared, FieldInfo, JavaType, copied};
+use class_world::{Declared, FieldInfo, JavaType, World, copied};
 use java_core::{Before, CoreExpr, CoreForm};
 use java_tree::tree::{Mod, Name, Node, Primitive};
 use java_tree::{Boxed, NoMemory};
@@ -22,13 +22,13 @@ use std::alloc::Global;
 use type_facts::Questions;
 use type_facts::asks::{field_named, has_access};
 use type_facts::scope::{LocalVar, Locals, Place, own_type};
-use type_facts::seen::{accessed, as_seen, seen_by};
+use type_facts::seen::{accessed, as_seen, is_interface, seen_by};
 use type_kinds::kinds::{element, has};
 
-fn is_static_field(info: &FieldInfo) -> bool
-    ensures { result ≡ spec.is_static_field info.now }
+fn is_static_field(w: &World, info: &FieldInfo) -> bool
+    ensures { result ≡ spec.is_static_field w.now info.now }
 {
-    has(Mod::Static, info.mods.as_slice())
+    has(Mod::Static, info.mods.as_slice()) || is_interface(w, info.owner)
 }
 
 // Whether a class can access a field (JLS 6.6). A simple name may name any field of its class.
@@ -156,7 +156,7 @@ fn field_type(
     ensures { (f : Facts) → AreFacts q.now f → IfOk result (λ r. r ≡ spec.field_type f place.now (receiver of.now) info.now) }
 {
     let ty = receiver_type(alloc, place, of)?;
-    let seen = seen_by(alloc, q, &ty, info.owner, is_static_field(info))?;
+    let seen = seen_by(alloc, q, &ty, info.owner, is_static_field(q.world, info))?;
     as_seen(alloc, &seen, &info.ty)
 }
 
@@ -195,7 +195,7 @@ fn field_made(
     ensures { (f : Facts) → AreFacts q.now f → IfOk result (λ r. plain r ≡ spec.field_made f place.now how node (receiver of) number info.now) }
 {
     let ty = field_type(alloc, q, place, &of, info)?;
-    let form = field_form(alloc, place, node, of, is_static_field(info), number)?;
+    let form = field_form(alloc, place, node, of, is_static_field(q.world, info), number)?;
     access(alloc, q, is_read(how), node, &info.ty, ty, form)
 }
 
@@ -224,7 +224,7 @@ fn field_numbered(
             rule,
         });
     }
-    if !may_have_field(place, &of, is_static_field(info)) {
+    if !may_have_field(place, &of, is_static_field(q.world, info)) {
         return Err(Stop::Broken {
             node: node.id,
             rule,

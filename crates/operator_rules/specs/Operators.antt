@@ -9,6 +9,7 @@ use Rattle.java_tree.specs.declared.tree.BinOp.{BinOp}
 use Rattle.java_tree.specs.declared.tree.BinOp.TheVariants as bin
 use Rattle.java_tree.specs.declared.tree.Primitive.{Primitive}
 use Rattle.java_tree.specs.declared.tree.Primitive.TheVariants as prim
+use Rattle.class_world.specs.declared.world.World.{World}
 use Rattle.class_world.specs.declared.world.FieldInfo.{FieldInfo}
 use Rattle.class_world.specs.declared.world.JavaType.{JavaType}
 use Rattle.class_world.specs.declared.world.JavaType.TheOpen as form
@@ -20,6 +21,7 @@ use Rattle.java_core.specs.Plain as p
 use Rattle.checked.specs.Checked.{Checked, Fine, Broken, and_then, under, with_some}
 use Rattle.type_kinds.specs.Kinds.{ty_of, form_of, int, long, boolean, primitive, element, is_numeric, is_boolean, is_long, is_short, is_string, is_reference, is_primitive, boolean_primitive, joint_kind, lone_kind, kind_type, operand, converted, has}
 use Rattle.type_facts.specs.Facts.{Facts}
+use Rattle.type_facts.specs.Members.{is_interface}
 use Rattle.type_facts.specs.declared.scope.Place.{Place}
 use Rattle.type_facts.specs.declared.scope.LocalVar.{LocalVar}
 use Rattle.operator_rules.specs.declared.uses.Use.{Use}
@@ -46,9 +48,10 @@ unary n op a = and_then a (λ x. unary_of n op x)
 
 -- ---- what may be assigned: T60
 
-abbrev pub is_final_field : Option FieldInfo → Bool
-is_final_field None = false
-is_final_field (Some i) = has mods.Final i.mods
+-- each field of an interface is final (9.3)
+abbrev pub is_final_field : World → Option FieldInfo → Bool
+is_final_field w None = false
+is_final_field w (Some i) = has mods.Final i.mods || is_interface w i.owner
 
 abbrev pub is_final_local : List LocalVar → (slot : ℕ) → Bool
 is_final_local ls k = list_any (λ l. l.is_final && (l.slot == k)) ls
@@ -60,9 +63,9 @@ abbrev mutual
 
   pub is_final_form : Facts → List LocalVar → p.Form → Bool
   is_final_form f ls (p.Local k) = is_final_local ls k
-  is_final_form f ls (p.Field x simple k) = is_final_field (slice_get f.world.fields k)
-  is_final_form f ls (p.SuperField k) = is_final_field (slice_get f.world.fields k)
-  is_final_form f ls (p.StaticField before x k) = is_final_field (slice_get f.world.fields k)
+  is_final_form f ls (p.Field x simple k) = is_final_field f.world (slice_get f.world.fields k)
+  is_final_form f ls (p.SuperField k) = is_final_field f.world (slice_get f.world.fields k)
+  is_final_form f ls (p.StaticField before x k) = is_final_field f.world (slice_get f.world.fields k)
   is_final_form f ls (p.Paren x) = is_final f ls x
   is_final_form f ls (p.Implied x) = is_final f ls x
   is_final_form f ls _ = false

@@ -12,14 +12,15 @@ use java_core::{CoreExpr, CoreForm};
 use java_tree::tree::Mod;
 use type_facts::Questions;
 use type_facts::scope::{LocalVar, Locals, Place};
+use type_facts::seen::is_interface;
 use type_kinds::kinds::has;
 
 fn is_final_field(w: &World, field: u32) -> bool
-    ensures { result ≡ spec.is_final_field (slice_get w.now.fields field) }
+    ensures { result ≡ spec.is_final_field w.now (slice_get w.now.fields field) }
 {
     match w.fields.get(field as usize) {
         None => false,
-        Some(info) => has(Mod::Final, info.mods.as_slice()),
+        Some(info) => has(Mod::Final, info.mods.as_slice()) || is_interface(w, info.owner),
     }
 }
 
