@@ -18,6 +18,7 @@ use java_core::{CoreExpr, CoreForm};
 use java_tree::Items;
 use java_tree::tree::{Expr, ExprForm, Name, Node, Primitive, TypeExpr, UnOp};
 use member_uses::{Dotted, Receiver, dotted, field_of, super_field, variable};
+use operator_rules::Use;
 use operator_rules::arrays::index;
 use operator_rules::casts::{cast, instance_of};
 use operator_rules::conditionals::cond;
@@ -25,7 +26,6 @@ use operator_rules::constants::number;
 use operator_rules::operators::{assign, compound, operands, step, unary};
 use operator_rules::uses::within;
 use operator_rules::writtens::written;
-use operator_rules::Use;
 use std::alloc::Global;
 use type_facts::Questions;
 use type_facts::scope::{Locals, Place};
@@ -133,11 +133,23 @@ fn check_for(
             match before {
                 Err(_) => Err(Stop::NoMemory),
                 Ok(Dotted::Value) => {
-                    let of = boxed(alloc, check_for(alloc, q, place, locals, None, Use::Read, of.get()));
+                    let of = boxed(
+                        alloc,
+                        check_for(alloc, q, place, locals, None, Use::Read, of.get()),
+                    );
                     forms::field_on(alloc, q, place, how, node, of, *name)
                 }
                 Ok(Dotted::Type(at, class)) => {
-                    field_of(alloc, q, place, how, node, 28, Receiver::Type(at, class), *name)
+                    field_of(
+                        alloc,
+                        q,
+                        place,
+                        how,
+                        node,
+                        28,
+                        Receiver::Type(at, class),
+                        *name,
+                    )
                 }
                 Ok(Dotted::Unknown(at)) => Err(Stop::Broken {
                     node: at.id,
@@ -147,8 +159,14 @@ fn check_for(
         }
         ExprForm::SuperField(name) => super_field(alloc, q, place, how, node, *name),
         ExprForm::Index { of, at } => {
-            let of = boxed(alloc, check_for(alloc, q, place, locals, None, Use::Read, of.get()));
-            let at = boxed(alloc, check_for(alloc, q, place, locals, None, Use::Read, at.get()));
+            let of = boxed(
+                alloc,
+                check_for(alloc, q, place, locals, None, Use::Read, of.get()),
+            );
+            let at = boxed(
+                alloc,
+                check_for(alloc, q, place, locals, None, Use::Read, at.get()),
+            );
             index(alloc, node, of, at)
         }
         ExprForm::Call { of, name, args } => match of {
@@ -161,7 +179,10 @@ fn check_for(
                 match before {
                     Err(_) => Err(Stop::NoMemory),
                     Ok(Dotted::Value) => {
-                        let of = boxed(alloc, check_for(alloc, q, place, locals, None, Use::Read, of.get()));
+                        let of = boxed(
+                            alloc,
+                            check_for(alloc, q, place, locals, None, Use::Read, of.get()),
+                        );
                         let args = check_all(alloc, q, place, locals, args.as_slice());
                         forms::call_on(alloc, q, place, how, node, of, *name, args)
                     }
@@ -190,7 +211,15 @@ fn check_for(
             let sizes = check_all(alloc, q, place, locals, sizes.as_slice());
             forms::array_of(alloc, node, ty, *extra, sizes)
         }
-        ExprForm::NewFilled { ty, items } => check_filled(alloc, q, place, locals, node, ty, items.get()),
+        ExprForm::NewFilled { ty, items } => check_filled(
+            alloc,
+            q,
+            place,
+            locals,
+            node,
+            ty,
+            items.get(),
+        ),
         ExprForm::Items(items) => match to {
             None => Err(Stop::Broken {
                 node: node.id,
@@ -199,7 +228,10 @@ fn check_for(
             Some(to) => check_filling(alloc, q, place, locals, node, to, items.as_slice()),
         },
         ExprForm::Paren(of) => {
-            let of = boxed(alloc, check_for(alloc, q, place, locals, None, within(how), of.get()));
+            let of = boxed(
+                alloc,
+                check_for(alloc, q, place, locals, None, within(how), of.get()),
+            );
             forms::paren(alloc, node, of)
         }
         ExprForm::Unary { op, of } => {
@@ -207,39 +239,75 @@ fn check_for(
             unary(alloc, node, *op, of)
         }
         ExprForm::Step { up, before, of } => {
-            let of = boxed(alloc, check_for(alloc, q, place, locals, None, Use::Change, of.get()));
+            let of = boxed(
+                alloc,
+                check_for(alloc, q, place, locals, None, Use::Change, of.get()),
+            );
             step(alloc, q, locals, node, *up, *before, of)
         }
         ExprForm::Cast { ty, close, of } => {
             let ty = written(alloc, q, place, ty);
-            let of = boxed(alloc, check_for(alloc, q, place, locals, None, Use::Read, of.get()));
+            let of = boxed(
+                alloc,
+                check_for(alloc, q, place, locals, None, Use::Read, of.get()),
+            );
             cast(alloc, q, node, ty, *close, of)
         }
         ExprForm::Binary { op, left, right } => {
-            let left = boxed(alloc, check_for(alloc, q, place, locals, None, Use::Read, left.get()));
-            let right = boxed(alloc, check_for(alloc, q, place, locals, None, Use::Read, right.get()));
+            let left = boxed(
+                alloc,
+                check_for(alloc, q, place, locals, None, Use::Read, left.get()),
+            );
+            let right = boxed(
+                alloc,
+                check_for(alloc, q, place, locals, None, Use::Read, right.get()),
+            );
             operands(alloc, q, node, *op, left, right)
         }
         ExprForm::InstanceOf { of, ty } => {
-            let of = boxed(alloc, check_for(alloc, q, place, locals, None, Use::Read, of.get()));
+            let of = boxed(
+                alloc,
+                check_for(alloc, q, place, locals, None, Use::Read, of.get()),
+            );
             let ty = written(alloc, q, place, ty);
             instance_of(alloc, q, node, of, ty)
         }
         ExprForm::Cond { test, yes, no } => {
-            let test = boxed(alloc, check_for(alloc, q, place, locals, None, Use::Read, test.get()));
-            let yes = boxed(alloc, check_for(alloc, q, place, locals, None, Use::Read, yes.get()));
-            let no = boxed(alloc, check_for(alloc, q, place, locals, None, Use::Read, no.get()));
+            let test = boxed(
+                alloc,
+                check_for(alloc, q, place, locals, None, Use::Read, test.get()),
+            );
+            let yes = boxed(
+                alloc,
+                check_for(alloc, q, place, locals, None, Use::Read, yes.get()),
+            );
+            let no = boxed(
+                alloc,
+                check_for(alloc, q, place, locals, None, Use::Read, no.get()),
+            );
             cond(alloc, q, node, test, yes, no)
         }
         ExprForm::Assign { op, to, from } => match op {
             None => {
-                let to = boxed(alloc, check_for(alloc, q, place, locals, None, Use::Set, to.get()));
-                let from = boxed(alloc, check_for(alloc, q, place, locals, None, Use::Read, from.get()));
+                let to = boxed(
+                    alloc,
+                    check_for(alloc, q, place, locals, None, Use::Set, to.get()),
+                );
+                let from = boxed(
+                    alloc,
+                    check_for(alloc, q, place, locals, None, Use::Read, from.get()),
+                );
                 assign(alloc, q, place, how, locals, node, to, from)
             }
             Some(op) => {
-                let to = boxed(alloc, check_for(alloc, q, place, locals, None, Use::Change, to.get()));
-                let from = boxed(alloc, check_for(alloc, q, place, locals, None, Use::Read, from.get()));
+                let to = boxed(
+                    alloc,
+                    check_for(alloc, q, place, locals, None, Use::Change, to.get()),
+                );
+                let from = boxed(
+                    alloc,
+                    check_for(alloc, q, place, locals, None, Use::Read, from.get()),
+                );
                 compound(alloc, q, locals, node, *op, to, from)
             }
         },
@@ -285,7 +353,10 @@ fn check_filled(
     ensures { (f : Facts) → AreFacts q.now f → Meets plain result (and_then (writtens.written f place.now (view.type_plain ty.now)) (λ w. spec.filled_of node w (spec.typed_for f place.now locals.now (Some (writtens.type_said w)) use_.Read (view.plain items.now)))) }
 {
     let ty = written(alloc, q, place, ty)?;
-    let items = boxed(alloc, check_for(alloc, q, place, locals, Some(&ty.ty), Use::Read, items));
+    let items = boxed(
+        alloc,
+        check_for(alloc, q, place, locals, Some(&ty.ty), Use::Read, items),
+    );
     forms::filled_of(alloc, node, ty, items)
 }
 

@@ -60,11 +60,7 @@ pub fn this_of(alloc: Global, place: &Place, node: Node) -> Result<CoreExpr, Sto
 
 /// An expression in brackets (JLS 15.8.5).
 #[tactic(auto, using(java_core::proofs::Views::plain_at))]
-pub fn paren(
-    alloc: Global,
-    node: Node,
-    of: Result<Boxed<CoreExpr>, Stop>,
-) -> Result<CoreExpr, Stop>
+pub fn paren(alloc: Global, node: Node, of: Result<Boxed<CoreExpr>, Stop>) -> Result<CoreExpr, Stop>
     ensures { (a : Checked p.Expr) → Meets plain of a → Meets plain result (spec.paren node a) }
 {
     let of = of?;
@@ -132,16 +128,7 @@ pub fn call_on(
         });
     }
     let args = args?;
-    called(
-        alloc,
-        q,
-        place,
-        how,
-        node,
-        Receiver::Value(of),
-        name,
-        args,
-    )
+    called(alloc, q, place, how, node, Receiver::Value(of), name, args)
 }
 
 /// A call on a type's name (JLS 15.12.3): T34, T36.

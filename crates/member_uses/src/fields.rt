@@ -195,7 +195,14 @@ fn field_made(
     ensures { (f : Facts) → AreFacts q.now f → IfOk result (λ r. plain r ≡ spec.field_made f place.now how node (receiver of) number info.now) }
 {
     let ty = field_type(alloc, q, place, &of, info)?;
-    let form = field_form(alloc, place, node, of, is_static_field(q.world, info), number)?;
+    let form = field_form(
+        alloc,
+        place,
+        node,
+        of,
+        is_static_field(q.world, info),
+        number,
+    )?;
     access(alloc, q, is_read(how), node, &info.ty, ty, form)
 }
 
