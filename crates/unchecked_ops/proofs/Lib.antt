@@ -1,0 +1,9 @@
+pub mod Bases
+pub mod Orders
+pub mod Heights
+pub mod Steps
+pub mod Oks
+pub mod Forms
+pub mod Arms
+pub mod Statements
+pub mod Existence
