@@ -1,0 +1,5 @@
+pub mod Labels
+pub mod Fronts
+pub mod Pieces
+pub mod Statements
+pub mod Heights
