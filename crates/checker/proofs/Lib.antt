@@ -1,0 +1,5 @@
+pub mod Answered
+pub mod Counts
+pub mod Existence
+pub mod Facts
+pub mod Names
