@@ -67,9 +67,9 @@ def answer(words, files, folders):
     rule = broken_word_rule(words)
     if rule is not None:
         return Answer("U%d" % rule, USAGE, b"usage U%d\n" % rule, {})
-    if words[0] != "generalize":
+    if words[0] not in ("check", "generalize"):
         return refused("N1", "-", "another command")
-    request = read_request(words)
+    request = read_request(words) if words[0] == "generalize" else read_check(words)
     disk = Disk(files, folders)
     try:
         texts = read_files(request, disk)
@@ -79,6 +79,8 @@ def answer(words, files, folders):
         require_declarations(request, texts)
     except Stopped as stop:
         return stop.answer
+    if words[0] == "check":
+        return Answer("check", None, None, {}, "the rules on types are not read here")
     try:
         require(len(request.inputs) == 1, "not the one file")
         program = read_program(texts[0])
@@ -232,6 +234,17 @@ def read_request(words):
     out, file, line, column, target = [word for _, word in command.own]
     return Request(out, file, int(line), int(column), target, command.users + command.libs,
                    len(command.users))
+
+
+class Check(NamedTuple):
+    """What the words of `check` ask for."""
+    inputs: list
+    users: int
+
+
+def read_check(words):
+    command = read_command(words)
+    return Check(command.users + command.libs, len(command.users))
 
 
 def is_path(word):

@@ -268,10 +268,11 @@ impl Files for Unread {
 }
 
 /// Words, and the answer where each read wants memory, with its report.
-const WANTING: [(&str, Status, &str); 4] = [
+const WANTING: [(&str, Status, &str); 5] = [
     (REQUEST, Status::NoMemory, ""),
     (TWO_FILES, Status::NoMemory, ""),
-    ("check -- A.java", Status::Refused, "refused N1 -\n"),
+    ("check -- A.java", Status::NoMemory, ""),
+    ("run 1 A -- A.java", Status::Refused, "refused N1 -\n"),
     (
         "generalize out A.java 5 5 A --",
         Status::Usage,

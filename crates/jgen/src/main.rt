@@ -19,7 +19,10 @@ jgen: refactorings of Java programs, proved to keep what the programs do
       Changes the declared type that begins at LINE and COL of FILE, one of the
       FILES, into TYPE, and writes OUT/FILE. LINE and COL count from 1, COL bytes.
       FILE is not changed. Today a change is made in small programs of one file.
-  Other commands (check, run, allowed, extract-interface, pull-up,
+  jgen check -- FILES [+ LIBRARY FILES]
+      Checks that the files are a program that breaks no rule, and names its
+      unchecked operations.
+  Other commands (run, allowed, extract-interface, pull-up,
   infer-type-arguments, workload) are read and refused as N1, not built yet.
   jgen --help
   jgen --version
@@ -27,7 +30,9 @@ jgen: refactorings of Java programs, proved to keep what the programs do
 What is reported, a line each:
   edit FILE FROM TO BYTES TEXT   the bytes FROM to before TO of FILE become TEXT
   done K edits                   the last line of a change
-  refused RULE PLACE             the first rule or constraint against the change
+  unchecked PLACE                an unchecked operation of a program
+  checked K files                the last line of a check, library files counted
+  refused RULE PLACE             the first rule or constraint that stands against it
   usage RULE                     the lowest rule that the words break
   missing NAME, read fault NAME, write fault NAME
 

@@ -34,21 +34,25 @@ told words a b st (way.Course.usages {rule = n} lowest same ends) = elim ends [
   | inl e ↦ usage e.0 (record { rule = n; lowest = lowest; report = e.1; nothing = same })
   | inr c ↦ let o = cut words a b _ c.1 (λ whole p. inr (inr (inl (record { rule = n; lowest = lowest; report = p; nothing = same })))) in out_fault c.0 o.0 o.1
 ]
-told words a b st (way.Course.absent {q = q} k name asks named absent rose same ends) = elim ends [
-  | inl e ↦ missing e.0 rose (record { q = q; asks = asks; file = k; name = name; named = named; absent = absent; report = e.1; nothing = same })
-  | inr c ↦ let o = cut words a b _ c.1 (λ whole p. inr (inr (inr (inl (record { q = q; asks = asks; file = k; name = name; named = named; absent = absent; report = p; nothing = same }))))) in out_fault c.0 o.0 o.1
+told words a b st (way.Course.absent {fs = fs} k name asks named absent rose same ends) = elim ends [
+  | inl e ↦ missing e.0 rose (record { fs = fs; asks = asks; file = k; name = name; named = named; absent = absent; report = e.1; nothing = same })
+  | inr c ↦ let o = cut words a b _ c.1 (λ whole p. inr (inr (inr (inl (record { fs = fs; asks = asks; file = k; name = name; named = named; absent = absent; report = p; nothing = same }))))) in out_fault c.0 o.0 o.1
 ]
-told words a b st (way.Course.unread {q = q} k name asks named unread rose same ends) = elim ends [
-  | inl e ↦ read_fault e.0 rose (record { q = q; asks = asks; file = k; name = name; named = named; unread = unread; report = e.1; nothing = same })
-  | inr c ↦ let o = cut words a b _ c.1 (λ whole p. inr (inr (inr (inr (inl (record { q = q; asks = asks; file = k; name = name; named = named; unread = unread; report = p; nothing = same })))))) in out_fault c.0 o.0 o.1
+told words a b st (way.Course.unread {fs = fs} k name asks named unread rose same ends) = elim ends [
+  | inl e ↦ read_fault e.0 rose (record { fs = fs; asks = asks; file = k; name = name; named = named; unread = unread; report = e.1; nothing = same })
+  | inr c ↦ let o = cut words a b _ c.1 (λ whole p. inr (inr (inr (inr (inl (record { fs = fs; asks = asks; file = k; name = name; named = named; unread = unread; report = p; nothing = same })))))) in out_fault c.0 o.0 o.1
 ]
 told words a b st (way.Course.refuses {line = line} r same ends) = elim ends [
   | inl e ↦ refused e.0 (record { line = line; refusal = r; report = e.1; nothing = same })
   | inr c ↦ let o = cut words a b _ c.1 (λ whole p. inr (inl (record { line = line; refusal = r; report = p; nothing = same }))) in out_fault c.0 o.0 o.1
 ]
+told words a b st (way.Course.checks {line = line} p same ends) = elim ends [
+  | inl e ↦ done e.0 (inr (record { line = line; passes = p; report = e.1; nothing = same }))
+  | inr c ↦ let o = cut words a b _ c.1 (λ whole put. inl (inr (record { line = line; passes = p; report = put; nothing = same }))) in out_fault c.0 o.0 o.1
+]
 told words a b st (way.Course.writes {q = q} {made = made} {e = x} change w ends) = elim ends [
-  | inl e ↦ done e.0 (record { q = q; made = made; edit = x; change = change; written = w; report = e.1 })
-  | inr c ↦ let o = cut words a b _ c.1 (λ whole p. inl (record { q = q; made = made; edit = x; change = change; written = w; report = p })) in out_fault c.0 o.0 o.1
+  | inl e ↦ done e.0 (inl (record { q = q; made = made; edit = x; change = change; written = w; report = e.1 }))
+  | inr c ↦ let o = cut words a b _ c.1 (λ whole p. inl (inl (record { q = q; made = made; edit = x; change = change; written = w; report = p }))) in out_fault c.0 o.0 o.1
 ]
 told words a b st (way.Course.fails {q = q} {made = made} {e = x} change w rose ends) = elim ends [
   | inl e ↦ write_fault e.0 rose (record { q = q; made = made; edit = x; change = change; others = w; report = e.1 })

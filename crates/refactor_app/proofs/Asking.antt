@@ -1,15 +1,24 @@
 -- Words ask for one thing.
-use Rattle.std.proofs.Common.{◌≡◌, ℕ, List, [], ◌∷◌, refl, sym, ◌∙◌, ap, subst, arith}
+use Rattle.std.proofs.Common.{◌≡◌, ℕ, inl, inr, List, [], ◌∷◌, refl, sym, ◌∙◌, ap, subst, arith}
 use Rattle.std.proofs.lemmas.Fmt.{decimal_injective}
 use Rattle.command_words.specs.Names.{IsNumber}
 use Rattle.command_words.specs.Table.{parts_of}
-use Rattle.refactor_app.specs.Words.{Request, Asks}
+use Rattle.refactor_app.specs.Words.{Files, Request, Asks, AsksCheck, Uses}
+use Rattle.refactor_app.proofs.OneSense.{change_or_check}
 
 one_number : (w : List ℕ) (m n : ℕ) → IsNumber w m → IsNumber w n → m ≡ n
 one_number w m n a b = decimal_injective m n (omega (arith, a.1)) (omega (arith, b.1)) (sym a.0 ∙ b.0)
 
-same_request : (a b : Request) → a.out ≡ b.out → a.file ≡ b.file → a.line ≡ b.line → a.col ≡ b.col → a.ty ≡ b.ty → a.users ≡ b.users → a.libs ≡ b.libs → a ≡ b
-same_request a b out file line col ty users libs = rw (out, file, line, col, ty, users, libs) refl
+same_files : (a b : Files) → a.users ≡ b.users → a.libs ≡ b.libs → a ≡ b
+same_files a b users libs = rw (users, libs) refl
+
+same_request : (a b : Request) → a.out ≡ b.out → a.file ≡ b.file → a.line ≡ b.line → a.col ≡ b.col → a.ty ≡ b.ty → a.files ≡ b.files → a ≡ b
+same_request a b out file line col ty files = rw (out, file, line, col, ty, files) refl
+
+-- the files of words whose other words are the same
+of_words : (ws xs : List (List ℕ)) (a b : Files) → ws ≡ xs → (parts_of ws).users ≡ a.users → (parts_of ws).libs ≡ a.libs → (parts_of xs).users ≡ b.users → (parts_of xs).libs ≡ b.libs → a ≡ b
+of_words ws xs a b same users libs users' libs' =
+    same_files a b (sym users ∙ ap (λ (r : List (List ℕ)). (parts_of r).users) same ∙ users') (sym libs ∙ ap (λ (r : List (List ℕ)). (parts_of r).libs) same ∙ libs')
 
 abbrev five : List ℕ → List ℕ → List ℕ → List ℕ → List ℕ → List (List ℕ)
 five out file line col ty = out ∷ file ∷ line ∷ col ∷ ty ∷ []
@@ -25,6 +34,15 @@ one_request ws a b x y =
     let ty : a.ty ≡ b.ty = cc in
     let line_is = one_number x.line a.line b.line x.at_line (subst (λ (w : List ℕ). IsNumber w b.line) (sym line) y.at_line) in
     let col_is = one_number x.col a.col b.col x.at_col (subst (λ (w : List ℕ). IsNumber w b.col) (sym col) y.at_col) in
-    let users = sym x.users ∙ ap (λ (r : List (List ℕ)). (parts_of r).users) rest ∙ y.users in
-    let libs = sym x.libs ∙ ap (λ (r : List (List ℕ)). (parts_of r).libs) rest ∙ y.libs in
-    same_request a b out file line_is col_is ty users libs
+    same_request a b out file line_is col_is ty (of_words x.rest y.rest a.files b.files rest x.users x.libs y.users y.libs)
+
+one_check : (ws : List (List ℕ)) (a b : Files) → AsksCheck ws a → AsksCheck ws b → a ≡ b
+one_check ws a b x y =
+    let rest : x.rest ≡ y.rest = let all = sym x.are ∙ y.are in cc in
+    of_words x.rest y.rest a b rest x.users x.libs y.users y.libs
+
+pub one_files : (ws : List (List ℕ)) (a b : Files) → Uses ws a → Uses ws b → a ≡ b
+one_files ws a b (inl (q, x, is)) (inl (r, y, so)) = sym is ∙ ap (λ (q : Request). q.files) (one_request ws q r x y) ∙ so
+one_files ws a b (inl (q, x, is)) (inr y) = absurd (change_or_check ws q b x y)
+one_files ws a b (inr x) (inl (q, y, is)) = absurd (change_or_check ws q a y x)
+one_files ws a b (inr x) (inr y) = one_check ws a b x y

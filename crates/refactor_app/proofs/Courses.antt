@@ -21,7 +21,8 @@ use Rattle.java_grammar.specs.Interned.{interned}
 use Rattle.unit_grammar.specs.Sizes as size
 use Rattle.command_words.specs.declared.request.Request as words_of
 use Rattle.command_words.specs.Asked as asked_words
-use Rattle.command_words.specs.Table.{Parts}
+use Rattle.command_words.specs.declared.table.Command.{Command}
+use Rattle.command_words.specs.Table.{Parts, word_of}
 use Rattle.command_words.specs.Rules.{Meets}
 use Rattle.source_files.specs.declared.read.ReadStop.{ReadStop}
 use Rattle.source_files.specs.declared.read.ReadStop.TheVariants as read
@@ -33,12 +34,22 @@ use Rattle.source_files.specs.Answers as files
 use Rattle.refactor_app.specs.declared.status.Status.{Status}
 use Rattle.refactor_app.specs.declared.status.Status.TheVariants as s
 use Rattle.refactor_app.specs.declared.decide.Changed.{Changed}
-use Rattle.refactor_app.specs.Words.{Request, inputs, IsAlone, Asks, AskOther, out_name}
+use Rattle.refactor_app.specs.Words.{Files, Request, inputs, IsAlone, Asks, AsksCheck, Uses, AskOther, out_name}
 use Rattle.refactor_app.specs.Verdicts.{Refuses, Changes}
+use Rattle.class_world.specs.declared.world.World.{World}
+use Rattle.decl_table.specs.Program.{Program}
+use Rattle.checker.specs.Checking.{IsWellTyped, IsIllTyped}
+use Rattle.refactor_app.specs.declared.asked.Task.{Task}
+use Rattle.refactor_app.specs.declared.asked.Task.TheVariants as task
+use Rattle.refactor_app.specs.declared.check.CheckAnswer.{CheckAnswer}
+use Rattle.refactor_app.specs.declared.check.CheckAnswer.TheVariants as answer
+use Rattle.refactor_app.specs.Asked.{AsksTask, HasType, request_of, task_files}
 use Rattle.refactor_app.specs.Declarations.{AreDeclared}
+use Rattle.refactor_app.specs.Checked.{Answers}
 use Rattle.refactor_app.specs.Decided.{IsChange}
 use Rattle.refactor_app.specs.Refusals.{AsksFew, HasDeclared, Refusal}
 use Rattle.refactor_app.specs.Refusals as refusal
+use Rattle.refactor_app.specs.Checking.{Passes}
 use Rattle.refactor_app.specs.Answers.{Ends}
 use Rattle.refactor_app.specs.Course.{Moment, EndsAt, Finishes, Sequel, Course, IsAsked}
 use Rattle.refactor_app.specs.Course as way
@@ -81,15 +92,15 @@ among_one w n (u ∷ []) ls is e =
 among_one w n (u ∷ v ∷ vs) ls is e = absurd (cc)
 
 -- FILE is one of the user's files
-file_among : (words : List (List ℕ)) (q : Request) → Asks words q → is_among q.file q.users ≡ true
+file_among : (words : List (List ℕ)) (q : Request) → Asks words q → is_among q.file q.files.users ≡ true
 file_among words q asks =
     let own : slice_get (parts_of asks.rest).own 1 ≡ Some q.file = rw asks.own refl in
     let among : is_among q.file (parts_of asks.rest).users ≡ true = ((asks.meets 8).places refl).0 1 q.file own in
     subst (λ (us : List (List ℕ)). is_among q.file us ≡ true) asks.users among
 
 -- FILE is the one file
-pub alone : (words : List (List ℕ)) (q : Request) (n : List ℕ) → Asks words q → inputs q ≡ n ∷ [] → IsAlone q
-alone words q n asks e = among_one q.file n q.users q.libs (file_among words q asks) e
+pub alone : (words : List (List ℕ)) (q : Request) (n : List ℕ) → Asks words q → inputs q.files ≡ n ∷ [] → IsAlone q
+alone words q n asks e = among_one q.file n q.files.users q.files.libs (file_among words q asks) e
 
 users_one : (w n : List ℕ) (us ls : List (List ℕ)) → is_among w us ≡ true → us ++ ls ≡ n ∷ [] → length us ≡ 1
 users_one w n [] ls is e = absurd (cc)
@@ -97,24 +108,24 @@ users_one w n (u ∷ []) ls is e = refl
 users_one w n (u ∷ v ∷ vs) ls is e = absurd (cc)
 
 -- and a user's file
-one_user : (words : List (List ℕ)) (q : Request) → Asks words q → IsAlone q → length q.users ≡ 1
-one_user words q asks is = users_one q.file q.file q.users q.libs (file_among words q asks) is
+one_user : (words : List (List ℕ)) (q : Request) → Asks words q → IsAlone q → length q.files.users ≡ 1
+one_user words q asks is = users_one q.file q.file q.files.users q.files.libs (file_among words q asks) is
 
-pub not_alone : (q : Request) (texts : List (List ℕ)) (look : Option Look) → AreHeld look 0 (inputs q) texts → (length texts ≡ 1 → ⊥) → IsAlone q → ⊥
-not_alone q texts look h many is = many (sym (held_long look 0 (inputs q) texts h) ∙ ap length is)
+pub not_alone : (q : Request) (texts : List (List ℕ)) (look : Option Look) → AreHeld look 0 (inputs q.files) texts → (length texts ≡ 1 → ⊥) → IsAlone q → ⊥
+not_alone q texts look h many is = many (sym (held_long look 0 (inputs q.files) texts h) ∙ ap length is)
 
 module _ (words : List (List ℕ)) (q : Request) (text : List ℕ) (names : List (List ℕ)) (u : SourceUnit) (a b : Moment) (st : Status) where
-  asked : HasDeclared words a.holds q (text ∷ []) names (u ∷ []) → IsAlone q → (made : List ℕ) (e : Edit) → Changes q text made e → IsAsked words a q made e
-  asked declared is made e c =
-      let one = subst (λ (n : ℕ). AreDeclared n names (u ∷ [])) (one_user words q declared.parsed.read.asks.asks is) declared.declared in
-      record { text = text; names = names; unit = u; declared = declared; alone = is; changes = c; still_declared = still_declared q text names u made e declared.parsed.trees one c }
+  asked : Asks words q → HasDeclared words a.holds q.files (text ∷ []) names (u ∷ []) → IsAlone q → (made : List ℕ) (e : Edit) → Changes q text made e → IsAsked words a q made e
+  asked asks declared is made e c =
+      let one = subst (λ (n : ℕ). AreDeclared n names (u ∷ [])) (one_user words q asks is) declared.declared in
+      record { text = text; names = names; unit = u; asks = asks; declared = declared; alone = is; changes = c; still_declared = still_declared q text names u made e declared.parsed.trees one c }
 
   -- what becomes of a request on the text is what becomes of the call
-  pub on_alone : HasDeclared words a.holds q (text ∷ []) names (u ∷ []) → IsAlone q → Sequel q text a b st → Course words a b st
-  on_alone declared is (way.Sequel.refuses {line = line} r same ends) = way.Course.refuses (refusal.Refusal.refuses q text names u declared is r) same ends
-  on_alone declared is (way.Sequel.writes {made = made} {e = e} c told ends) = way.Course.writes (asked declared is made e c) told ends
-  on_alone declared is (way.Sequel.fails {made = made} {e = e} c told rose ends) = way.Course.fails (asked declared is made e c) told rose ends
-  on_alone declared is (way.Sequel.no_memory e p none) = way.Course.no_memory e p none
+  pub on_alone : Asks words q → HasDeclared words a.holds q.files (text ∷ []) names (u ∷ []) → IsAlone q → Sequel q text a b st → Course words a b st
+  on_alone asks declared is (way.Sequel.refuses {line = line} r same ends) = way.Course.refuses (refusal.Refusal.refuses q text names u asks declared is r) same ends
+  on_alone asks declared is (way.Sequel.writes {made = made} {e = e} c told ends) = way.Course.writes (asked asks declared is made e c) told ends
+  on_alone asks declared is (way.Sequel.fails {made = made} {e = e} c told rose ends) = way.Course.fails (asked asks declared is made e c) told rose ends
+  on_alone asks declared is (way.Sequel.no_memory e p none) = way.Course.no_memory e p none
 
 pub map_length : {X Y : Type 0} (f : X → Y) (xs : List X) → length (map f xs) ≡ length xs
 map_length f [] = refl
@@ -139,31 +150,31 @@ last_one xs (y ∷ []) x e n = absurd (omega (arith, n, ap length e))
 last_one xs (y ∷ z ∷ zs) x e n = absurd (omega (arith, n, ap length e))
 
 -- the user's files are among the files
-pub users_within : (look : Option Look) (q : Request) (texts : List (List ℕ)) (units : List SourceUnit) (names : List (List ℕ)) → AreHeld look 0 (inputs q) texts
-    → AreTrees built_in_names 0 0 texts units names → length q.users ≤ length units
-users_within look q texts units names held trees =
+pub users_within : (look : Option Look) (fs : Files) (texts : List (List ℕ)) (units : List SourceUnit) (names : List (List ℕ)) → AreHeld look 0 (inputs fs) texts
+    → AreTrees built_in_names 0 0 texts units names → length fs.users ≤ length units
+users_within look fs texts units names held trees =
     let many = trees_long built_in_names 0 0 texts units names trees in
-    let files = held_long look 0 (inputs q) texts held in
-    let both = length-append {A = List ℕ} q.users q.libs in
+    let files = held_long look 0 (inputs fs) texts held in
+    let both = length-append {A = List ℕ} fs.users fs.libs in
     omega (arith, many, files, both)
 
 -- the text, and the tree, of the one file
-pub record IsOneFile (look : Option Look) (q : Request) (text : List ℕ) (names : List (List ℕ)) (u : SourceUnit) : Type 0 where
-  pub held : AreHeld look 0 (inputs q) (text ∷ [])
+pub record IsOneFile (look : Option Look) (fs : Files) (text : List ℕ) (names : List (List ℕ)) (u : SourceUnit) : Type 0 where
+  pub held : AreHeld look 0 (inputs fs) (text ∷ [])
   pub trees : AreTrees built_in_names 0 0 (text ∷ []) (u ∷ []) names
-  pub declared : AreDeclared (length q.users) names (u ∷ [])
+  pub declared : AreDeclared (length fs.users) names (u ∷ [])
 
-pub one_file : {X : Type 0} (view : X → SourceUnit) (look : Option Look) (q : Request) (texts : List (List ℕ)) (text : List ℕ) (names : List (List ℕ)) (units rest : List X) (x : X)
-    → AreHeld look 0 (inputs q) texts → AreTrees built_in_names 0 0 texts (map view units) names → AreDeclared (length q.users) names (map view units) → length texts ≡ 1 → text ≡ get_or texts 0 text → units ≡ rest ++ x ∷ []
-    → IsOneFile look q text names (view x)
-one_file view look q texts text names units rest x held trees declared one is last =
+pub one_file : {X : Type 0} (view : X → SourceUnit) (look : Option Look) (fs : Files) (texts : List (List ℕ)) (text : List ℕ) (names : List (List ℕ)) (units rest : List X) (x : X)
+    → AreHeld look 0 (inputs fs) texts → AreTrees built_in_names 0 0 texts (map view units) names → AreDeclared (length fs.users) names (map view units) → length texts ≡ 1 → text ≡ get_or texts 0 text → units ≡ rest ++ x ∷ []
+    → IsOneFile look fs text names (view x)
+one_file view look fs texts text names units rest x held trees declared one is last =
     let alone_text : texts ≡ text ∷ [] = only_one texts text one is in
     let many : length units ≡ 1 = sym (map_length view units) ∙ trees_long built_in_names 0 0 texts (map view units) names trees ∙ one in
     let alone_unit : units ≡ x ∷ [] = last_one units rest x last many in
     record {
-      held = subst (λ (xs : List (List ℕ)). AreHeld look 0 (inputs q) xs) alone_text held;
+      held = subst (λ (xs : List (List ℕ)). AreHeld look 0 (inputs fs) xs) alone_text held;
       trees = subst (λ (xs : List (List ℕ)). AreTrees built_in_names 0 0 xs (view x ∷ []) names) alone_text (subst (λ us. AreTrees built_in_names 0 0 texts (map view us) names) alone_unit trees);
-      declared = subst (λ us. AreDeclared (length q.users) names (map view us)) alone_unit declared;
+      declared = subst (λ us. AreDeclared (length fs.users) names (map view us)) alone_unit declared;
     }
 
 pub one_small : (look : Option Look) (before : ℕ) (names : List (List ℕ)) (text : List ℕ) → AreHeld look before names (text ∷ []) → length text ≤ 1048576
@@ -176,24 +187,65 @@ one_input look before (n ∷ []) text h = (n, refl)
 one_input look before (n ∷ m ∷ ns) text (is, room, more) = absurd more
 
 module _ (words : List (List ℕ)) (q : Request) (text : List ℕ) (names : List (List ℕ)) (u : SourceUnit) (a b : Moment) (st : Status) where
-  pub on_one : AsksFew words q → IsOneFile a.holds q text names u → Sequel q text a b st → Course words a b st
-  on_one asks is h =
-      let input = one_input a.holds 0 (inputs q) text is.held in
-      on_alone words q text names u a b st (record { parsed = record { read = record { asks = asks; held = is.held }; trees = is.trees }; declared = is.declared }) (alone words q input.0 asks.asks input.1) h
+  pub on_one : Asks words q → AsksFew words q.files → IsOneFile a.holds q.files text names u → Sequel q text a b st → Course words a b st
+  on_one asks few is h =
+      let input = one_input a.holds 0 (inputs q.files) text is.held in
+      on_alone words q text names u a b st asks (record { parsed = record { read = record { asks = few; held = is.held }; trees = is.trees }; declared = is.declared })
+      (alone words q input.0 asks input.1) h
+
+-- ---- a check
+
+-- the answer of a check is put
+abbrev pub EndsWith : Moment → Moment → CheckAnswer → Status → Type 0
+EndsWith a b (answer.Refused line) st = EndsAt a b (string_bytes line) s.Refused st
+EndsWith a b (answer.Passed report) st = EndsAt a b (string_bytes report) s.Done st
+
+-- what becomes of a check of files is what becomes of the call
+pub on_check : (words : List (List ℕ)) (fs : Files) (texts names : List (List ℕ)) (units : List SourceUnit) (a b : Moment) (st : Status) (p : Program) (w : World) (x : CheckAnswer)
+    → AsksCheck words fs → (h : HasDeclared words a.holds fs texts names units) → h.declared.program ≡ p → h.declared.world ≡ w → Answers fs texts units p w x
+    → b.holds ≡ a.holds → EndsWith a b x st → Course words a b st
+on_check words fs texts names units a b st p w (answer.Refused line) asks h program world (node, rule, ill, is) same ends =
+    let told = subst (λ (w : World). IsIllTyped h.declared.program w node rule) (sym world) (subst (λ (p : Program). IsIllTyped p w node rule) (sym program) ill) in
+    way.Course.refuses (refusal.Refusal.typed fs texts names units node rule asks h told) same (subst (λ (x : List ℕ). EndsAt a b x s.Refused st) is ends)
+on_check words fs texts names units a b st p w (answer.Passed report) asks h program world (nodes, well, is) same ends =
+    let typed = subst (λ (w : World). IsWellTyped h.declared.program w nodes) (sym world) (subst (λ (p : Program). IsWellTyped p w nodes) (sym program) well) in
+    way.Course.checks {line = string_bytes report} (record { fs = fs; texts = texts; names = names; units = units; nodes = nodes; asks = asks; declared = h; typed = typed; is = is }) same ends
+
+-- ---- a task
 
 -- TYPE is an identifier
-pub identifier_of : (words : List (List ℕ)) (q : Request) → Asks words q → IsIdentifier q.ty
+identifier_of : (words : List (List ℕ)) (q : Request) → Asks words q → IsIdentifier q.ty
 identifier_of words q asks =
     let own : slice_get (parts_of asks.rest).own 4 ≡ Some q.ty = rw asks.own refl in
     (asks.meets 7).identifiers refl 4 q.ty own
 
+pub type_of : (words : List (List ℕ)) (t : Task) → AsksTask words t → HasType t
+type_of words (task.Change q) asks = identifier_of words (request_of q) asks
+type_of words (task.Check i) asks = tt
+
+pub uses_of : (words : List (List ℕ)) (t : Task) → AsksTask words t → Uses words (task_files t)
+uses_of words (task.Change q) asks = inl (request_of q, asks, refl)
+uses_of words (task.Check i) asks = inr asks
+
+-- the words ask for a check
+pub asks_check : (words : List (List ℕ)) (r : words_of.Request) → asked_words.Asks words r → r.command ≡ command.Check
+    → AsksCheck words (record { users = map string_bytes r.users.now; libs = map string_bytes r.libs.now })
+asks_check words r asks is = record {
+  rest = asks.rest;
+  are = subst (λ (c : Command). words ≡ word_of c ∷ asks.rest) is asks.are;
+  users = ap (λ (p : Parts). p.users) asks.parts_are;
+  libs = ap (λ (p : Parts). p.libs) asks.parts_are;
+  meets = λ n. subst (λ (c : Command). Meets c (parts_of asks.rest) n) is (subst (λ (p : Parts). Meets r.command p n) (sym asks.parts_are) (asks.meets n));
+}
+
 -- the words ask for another command
-pub asks_other : (words : List (List ℕ)) (r : words_of.Request) → asked_words.Asks words r → r.command ≢ command.Generalize → AskOther words
-asks_other words r asks other = record {
+pub asks_other : (words : List (List ℕ)) (r : words_of.Request) → asked_words.Asks words r → r.command ≢ command.Generalize → r.command ≢ command.Check → AskOther words
+asks_other words r asks no_change no_check = record {
   command = r.command;
   rest = asks.rest;
   are = asks.are;
-  other = other;
+  no_change = no_change;
+  no_check = no_check;
   meets = λ n. subst (λ (p : Parts). Meets r.command p n) (sym asks.parts_are) (asks.meets n);
 }
 
@@ -223,28 +275,28 @@ stop_named look names read.TooLarge h = tt
 stop_named look names read.TooMuch h = tt
 stop_named look names read.NoMemory h = tt
 
-pub broken : (words : List (List ℕ)) (look : Option Look) (q : Request) (texts : List (List ℕ)) (stop : TreeStop) (line : List ℕ) → refusal.HasRead words look q texts
-    → files.HasParsed texts (Err stop) → TellsStop q texts stop line → Refusal words look line
-broken words look q texts (tree.Lexical rule file at) line r h t = refusal.Refusal.broken q texts file (Lexical rule at) r h t
-broken words look q texts tree.Tokens line r h t = refusal.Refusal.broken q texts h.0 Tokens r h.1 t
-broken words look q texts (tree.LeftOut rule file at) line r h t = refusal.Refusal.broken q texts file (LeftOut rule at) r h t
-broken words look q texts (tree.NoTree file at) line r h t = refusal.Refusal.broken q texts file (NoTree at) r h t
-broken words look q texts tree.NoMemory line r h t = absurd t
+pub broken : (words : List (List ℕ)) (look : Option Look) (fs : Files) (texts : List (List ℕ)) (stop : TreeStop) (line : List ℕ) → refusal.HasRead words look fs texts
+    → files.HasParsed texts (Err stop) → TellsStop fs texts stop line → Refusal words look line
+broken words look fs texts (tree.Lexical rule file at) line r h t = refusal.Refusal.broken fs texts file (Lexical rule at) r h t
+broken words look fs texts tree.Tokens line r h t = refusal.Refusal.broken fs texts h.0 Tokens r h.1 t
+broken words look fs texts (tree.LeftOut rule file at) line r h t = refusal.Refusal.broken fs texts file (LeftOut rule at) r h t
+broken words look fs texts (tree.NoTree file at) line r h t = refusal.Refusal.broken fs texts file (NoTree at) r h t
+broken words look fs texts tree.NoMemory line r h t = absurd t
 
-pub stopped : (words : List (List ℕ)) (q : Request) (a b : Moment) (st : Status) (stop : ReadStop) → AsksFew words q → files.HasRead a.holds (inputs q) (Err stop)
+pub stopped : (words : List (List ℕ)) (fs : Files) (a b : Moment) (st : Status) (stop : ReadStop) → AsksFew words fs → files.HasRead a.holds (inputs fs) (Err stop)
     → (files.IsMissing (Err stop) → Rose a.misses b.misses) → (files.IsFailed (Err stop) → Rose a.read_faults b.read_faults) → b.holds ≡ a.holds
-    → Stops (inputs q) stop a.put b.put a.faults b.faults st → Course words a b st
-stopped words q a b st (read.Missing k) asks h missed failed same (name, named, ends) = elim ends [
+    → Stops (inputs fs) stop a.put b.put a.faults b.faults st → Course words a b st
+stopped words fs a b st (read.Missing k) asks h missed failed same (name, named, ends) = elim ends [
   | inl e ↦ way.Course.absent k name asks named h (missed tt) same e
   | inr none ↦ way.Course.no_memory same none.1 none.0
 ]
-stopped words q a b st (read.Failed k) asks h missed failed same (name, named, ends) = elim ends [
+stopped words fs a b st (read.Failed k) asks h missed failed same (name, named, ends) = elim ends [
   | inl e ↦ way.Course.unread k name asks named h (failed tt) same e
   | inr none ↦ way.Course.no_memory same none.1 none.0
 ]
-stopped words q a b st read.TooLarge asks h missed failed same ends = way.Course.refuses (refusal.Refusal.l2 q h.0 asks h.1) same ends
-stopped words q a b st read.TooMuch asks h missed failed same ends = way.Course.refuses (refusal.Refusal.l3 q h.0 asks h.1) same ends
-stopped words q a b st read.NoMemory asks h missed failed same none = way.Course.no_memory same none.1 none.0
+stopped words fs a b st read.TooLarge asks h missed failed same ends = way.Course.refuses (refusal.Refusal.l2 fs h.0 asks h.1) same ends
+stopped words fs a b st read.TooMuch asks h missed failed same ends = way.Course.refuses (refusal.Refusal.l3 fs h.0 asks h.1) same ends
+stopped words fs a b st read.NoMemory asks h missed failed same none = way.Course.no_memory same none.1 none.0
 
 -- ---- a call that begins earlier
 
@@ -271,7 +323,8 @@ module _ (words : List (List ℕ)) (a m b : Moment) (st : Status) (after : IsAft
     text = h.text;
     names = h.names;
     unit = h.unit;
-    declared = subst (λ (look : Option Look). HasDeclared words look q (h.text ∷ []) h.names (h.unit ∷ [])) after.holds h.declared;
+    asks = h.asks;
+    declared = subst (λ (look : Option Look). HasDeclared words look q.files (h.text ∷ []) h.names (h.unit ∷ [])) after.holds h.declared;
     alone = h.alone;
     changes = h.changes;
     still_declared = h.still_declared;
@@ -279,14 +332,16 @@ module _ (words : List (List ℕ)) (a m b : Moment) (st : Status) (after : IsAft
 
   pub from_before : Course words m b st → Course words a b st
   from_before (way.Course.usages low same ends) = way.Course.usages low (same ∙ after.holds) (ends_from a m b _ _ st after.put after.faults ends)
-  from_before (way.Course.absent {q = q} k name asks named absent rose same ends) =
-      way.Course.absent k name asks named (subst (λ (look : Option Look). files.HasRead look (inputs q) (Err (read.Missing k))) after.holds absent)
+  from_before (way.Course.absent {fs = fs} k name asks named absent rose same ends) =
+      way.Course.absent k name asks named (subst (λ (look : Option Look). files.HasRead look (inputs fs) (Err (read.Missing k))) after.holds absent)
       (rose_later a.misses m.misses b.misses after.misses rose) (same ∙ after.holds) (ends_from a m b _ _ st after.put after.faults ends)
-  from_before (way.Course.unread {q = q} k name asks named unread rose same ends) =
-      way.Course.unread k name asks named (subst (λ (look : Option Look). files.HasRead look (inputs q) (Err (read.Failed k))) after.holds unread)
+  from_before (way.Course.unread {fs = fs} k name asks named unread rose same ends) =
+      way.Course.unread k name asks named (subst (λ (look : Option Look). files.HasRead look (inputs fs) (Err (read.Failed k))) after.holds unread)
       (rose_later a.read_faults m.read_faults b.read_faults after.read_faults rose) (same ∙ after.holds) (ends_from a m b _ _ st after.put after.faults ends)
   from_before (way.Course.refuses {line = line} r same ends) =
       way.Course.refuses (subst (λ (look : Option Look). Refusal words look line) after.holds r) (same ∙ after.holds) (ends_from a m b line s.Refused st after.put after.faults ends)
+  from_before (way.Course.checks {line = line} p same ends) =
+      way.Course.checks (subst (λ (look : Option Look). Passes words look line) after.holds p) (same ∙ after.holds) (ends_from a m b line s.Done st after.put after.faults ends)
   from_before (way.Course.writes {q = q} {made = made} {e = x} c told ends) =
       way.Course.writes (asked_from q made x c) (subst (λ (h : Option Look). WhereTold h b.holds (PutsAt (out_name q) made)) after.holds told)
       (ends_from a m b (edit_report q.file x) s.Done st after.put after.faults ends)

@@ -1,5 +1,5 @@
 -- From what `build` answers to what the judging of a program's declarations does.
-use Rattle.std.proofs.Common.{◌≡◌, ℕ, inl, inr, List, map, take, drop, Result, Ok, Err, sym, ◌∙◌, ap, subst}
+use Rattle.std.proofs.Common.{◌≡◌, ℕ, inl, inr, List, map, take, drop, Result, Ok, Err, refl, sym, ◌∙◌, ap, subst}
 use Rattle.std.proofs.lemmas.List.{take-map, drop-map}
 use Rattle.java_tree.specs.declared.fault.Fault.{Fault}
 use Rattle.java_tree.specs.declared.fault.Fault.TheVariants as fault
@@ -8,12 +8,12 @@ use Rattle.java_tree.specs.Plain as t
 use Rattle.java_tree.specs.View.{unit_plain}
 use Rattle.built_in_types.specs.BuiltIns.{with_words}
 use Rattle.class_world.specs.declared.world.World.{World}
-use Rattle.rule_order.specs.First.{IsNone}
 use Rattle.decl_table.specs.Program.{Program, IsRefusal, IsProgramWorld}
 use Rattle.decl_table.specs.Judged.{IsProgram, IsBuilding}
-use Rattle.member_table.specs.Table.{MemberBreaches, IsTabling}
-use Rattle.refactor_app.specs.Declarations.{IsOfFiles, AreDeclared}
-use Rattle.refactor_app.specs.Judged.{AreJudged}
+use Rattle.member_table.specs.Table.{IsTabling}
+use Rattle.refactor_app.specs.Declarations.{IsOfFiles}
+use Rattle.refactor_app.specs.declared.declarations.Declared.{Declared}
+use Rattle.refactor_app.specs.Judged.{AreDeclaredAs, AreJudged}
 
 module _ (users : ℕ) (names new : List (List ℕ)) (units user lib : List SourceUnit) (front : user ≡ take users units) (back : lib ≡ drop users units) where
   of_files : (p : Program) → new ≡ with_words names → IsProgram new (map unit_plain user) (map unit_plain lib) p → IsOfFiles users names (map unit_plain units) p
@@ -28,9 +28,13 @@ module _ (users : ℕ) (names new : List (List ℕ)) (units user lib : List Sour
   world_holds p w named h = subst (λ (ns : List (List ℕ)). IsProgramWorld ns p w) named h
 
   -- no rule is broken
-  pub judged_world : (w : World) → new ≡ with_words names → IsBuilding new (map unit_plain user) (map unit_plain lib) (Ok w) → IsNone (MemberBreaches w)
-      → AreDeclared users names (map unit_plain units)
-  judged_world w named (p, is, world) none = record { program = p; world = w; files = of_files p named is; holds = world_holds p w named world; members = none }
+  pub judged_world : (d : Declared) → new ≡ with_words names → IsBuilding new (map unit_plain user) (map unit_plain lib) (Ok d.world) → IsTabling d.world (Ok d.members)
+      → AreDeclaredAs users names (map unit_plain units) d
+  judged_world d named (p, is, world) (none, holds) = record {
+    declared = record { program = p; world = d.world; files = of_files p named is; holds = world_holds p d.world named world; members = none };
+    world = refl;
+    members = holds;
+  }
 
   -- one on declarations is, or memory ran out
   pub judged_fault : (f : Fault) → ((◌≡◌ {A = Result World Fault} (Err f) (Err fault.NoMemory) → ⊥) → new ≡ with_words names) → IsBuilding new (map unit_plain user) (map unit_plain lib) (Err f)

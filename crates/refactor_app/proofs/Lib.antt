@@ -1,6 +1,7 @@
 pub mod Answering
 pub mod Asking
 pub mod Changing
+pub mod Checking
 pub mod Courses
 pub mod Deciding
 pub mod Declaring

@@ -6,7 +6,7 @@ use Rattle.command_words.specs.declared.table.Command.{Command}
 use Rattle.command_words.specs.declared.table.Command.TheVariants as c
 use Rattle.command_words.specs.Table.{word_of, parts_of}
 use Rattle.command_words.specs.Rules.{Meets, IsLowest}
-use Rattle.refactor_app.specs.Words.{Request, Asks, AskOther}
+use Rattle.refactor_app.specs.Words.{Files, Request, Asks, AsksCheck, Uses, AskOther}
 
 -- the command whose word begins with this byte
 abbrev command_at : ℕ → Command
@@ -36,7 +36,7 @@ back c.Workload = refl
 one_command : (x y : Command) → word_of x ≡ word_of y → x ≡ y
 one_command x y e = sym (back x) ∙ ap command_of e ∙ back y
 
-one_split : (x y : Command) (r s : List (List ℕ)) → word_of x ∷ r ≡ word_of y ∷ s → (x ≡ y) × (r ≡ s)
+pub one_split : (x y : Command) (r s : List (List ℕ)) → word_of x ∷ r ≡ word_of y ∷ s → (x ≡ y) × (r ≡ s)
 one_split x y r s e =
     let word : word_of x ≡ word_of y = cc in
     let rest : r ≡ s = cc in
@@ -55,8 +55,9 @@ record Meet (words : List (List ℕ)) : Type 0 where
   are : words ≡ word_of command ∷ rest
   meets : (n : ℕ) → Meets command (parts_of rest) n
 
-asked : (words : List (List ℕ)) (q : Request) → Asks words q → Meet words
-asked words q h = record { command = c.Generalize; rest = h.rest; are = h.are; meets = h.meets }
+asked : (words : List (List ℕ)) (fs : Files) → Uses words fs → Meet words
+asked words fs (inl (q, h, is)) = record { command = c.Generalize; rest = h.rest; are = h.are; meets = h.meets }
+asked words fs (inr h) = record { command = c.Check; rest = h.rest; are = h.are; meets = h.meets }
 
 asked_other : (words : List (List ℕ)) → AskOther words → Meet words
 asked_other words h = record { command = h.command; rest = h.rest; are = h.are; meets = h.meets }
@@ -65,14 +66,18 @@ broken_or_met : (words : List (List ℕ)) (n : ℕ) → IsLowest words n → Mee
 broken_or_met words n (inl (is, none)) m = none (m.command, m.rest, m.are)
 broken_or_met words n (inr (x, r, e, broken, below)) m = broken (same_met words m.command x m.rest r m.are e n (m.meets n))
 
-pub lowest_or_asks : (words : List (List ℕ)) (n : ℕ) (q : Request) → IsLowest words n → Asks words q → ⊥
-lowest_or_asks words n q low h = broken_or_met words n low (asked words q h)
+pub lowest_or_asks : (words : List (List ℕ)) (n : ℕ) (fs : Files) → IsLowest words n → Uses words fs → ⊥
+lowest_or_asks words n fs low h = broken_or_met words n low (asked words fs h)
 
 pub lowest_or_other : (words : List (List ℕ)) (n : ℕ) → IsLowest words n → AskOther words → ⊥
 lowest_or_other words n low h = broken_or_met words n low (asked_other words h)
 
-pub other_or_asks : (words : List (List ℕ)) (q : Request) → AskOther words → Asks words q → ⊥
-other_or_asks words q other h = other.other (one_split other.command c.Generalize other.rest h.rest (sym other.are ∙ h.are)).0
+pub other_or_asks : (words : List (List ℕ)) (fs : Files) → AskOther words → Uses words fs → ⊥
+other_or_asks words fs other (inl (q, h, is)) = other.no_change (one_split other.command c.Generalize other.rest h.rest (sym other.are ∙ h.are)).0
+other_or_asks words fs other (inr h) = other.no_check (one_split other.command c.Check other.rest h.rest (sym other.are ∙ h.are)).0
+
+pub change_or_check : (words : List (List ℕ)) (q : Request) (fs : Files) → Asks words q → AsksCheck words fs → ⊥
+change_or_check words q fs g h = let same = (one_split c.Generalize c.Check g.rest h.rest (sym g.are ∙ h.are)).0 in absurd (cc)
 
 pub one_lowest : (words : List (List ℕ)) (m n : ℕ) → IsLowest words m → IsLowest words n → m ≡ n
 one_lowest words m n (inl (is, none)) (inl (so, none')) = is ∙ sym so

@@ -1,5 +1,5 @@
--- Places behind a text's end, and the line of a rule at a place.
-use Rattle.std.proofs.Common.{◌≡◌, ℕ, zero, suc, ◌+◌, ◌≤◌, min, inl, inr, Bool, true, false, cond, List, [], ◌∷◌, map, length, Option, Some, None, slice_get, refl, sym, ◌∙◌, ap, arith}
+-- Places behind a text's end, and the names of places.
+use Rattle.std.proofs.Common.{◌≡◌, ℕ, zero, suc, ◌+◌, ◌≤◌, min, inl, inr, Bool, true, false, cond, List, [], ◌∷◌, map, length, Option, Some, None, slice_get, refl, sym, ◌∙◌, ap, arith, codes}
 use Rattle.std.specs.Option.{option_map}
 use Rattle.std.specs.String.{string_bytes}
 use Rattle.std.specs.declared.string.String.{String}
@@ -8,9 +8,9 @@ use Rattle.std.proofs.lemmas.Bool.{cases_lt}
 use Rattle.std.proofs.lemmas.Option.{slice_get-map}
 use Rattle.edit_writer.specs.Places.{place_from, place_at}
 use Rattle.node_places.specs.declared.place.NodePlace.{NodePlace}
-use Rattle.report_text.specs.Report.{refused, refused_at}
-use Rattle.refactor_app.specs.Words.{Request, inputs}
-use Rattle.refactor_app.specs.Declarations.{line_in, line_at}
+use Rattle.report_text.specs.Report.{place_text}
+use Rattle.refactor_app.specs.Words.{Files, inputs}
+use Rattle.refactor_app.specs.Declarations.{place_in, place_name}
 
 behind : (l c : ℕ) (bs : List ℕ) (p : ℕ) → length bs ≤ p → place_from l c bs (length bs) ≡ place_from l c bs p
 behind l c [] zero h = refl
@@ -33,26 +33,26 @@ place_min text at = elim (cases_lt at (length text)) [
   | inr high ↦ let same : min (length text) at ≡ length text = omega arith in ap (λ (k : ℕ). place_at text k) same ∙ place_behind text at high
 ]
 
--- ---- the line of a rule at a place
+-- ---- the name of a place
 
-module _ (rule : List ℕ) (q : Request) (texts : List (List ℕ)) (names : List (String Global)) (are : inputs q ≡ map string_bytes names) (p : NodePlace) where
-  name_is : slice_get (inputs q) p.file ≡ option_map string_bytes (slice_get names p.file)
+module _ (fs : Files) (texts : List (List ℕ)) (names : List (String Global)) (are : inputs fs ≡ map string_bytes names) (p : NodePlace) where
+  name_is : slice_get (inputs fs) p.file ≡ option_map string_bytes (slice_get names p.file)
   name_is = ap (λ (ns : List (List ℕ)). slice_get ns p.file) are ∙ slice_get-map string_bytes names p.file
 
   pub there : (name : String Global) (text : List ℕ) → Some name ≡ slice_get names p.file → Some text ≡ slice_get texts p.file
-      → refused_at rule (string_bytes name) (place_at text p.at) ≡ line_at rule q texts (Some p)
+      → place_text (string_bytes name) (place_at text p.at) ≡ place_name fs texts (Some p)
   there name text e f =
-      let name_at : slice_get (inputs q) p.file ≡ Some (string_bytes name) = name_is ∙ ap (λ (o : Option (String Global)). option_map string_bytes o) (sym e) in
+      let name_at : slice_get (inputs fs) p.file ≡ Some (string_bytes name) = name_is ∙ ap (λ (o : Option (String Global)). option_map string_bytes o) (sym e) in
       rw (name_at, ← f) refl
 
-  pub no_name : None ≡ slice_get names p.file → refused rule ≡ line_at rule q texts (Some p)
+  pub no_name : None ≡ slice_get names p.file → codes "-" ≡ place_name fs texts (Some p)
   no_name e =
-      let none : slice_get (inputs q) p.file ≡ None = name_is ∙ ap (λ (o : Option (String Global)). option_map string_bytes o) (sym e) in
+      let none : slice_get (inputs fs) p.file ≡ None = name_is ∙ ap (λ (o : Option (String Global)). option_map string_bytes o) (sym e) in
       rw none refl
 
-  pub no_text : None ≡ slice_get texts p.file → refused rule ≡ line_at rule q texts (Some p)
-  no_text f = by_name (slice_get (inputs q) p.file)
+  pub no_text : None ≡ slice_get texts p.file → codes "-" ≡ place_name fs texts (Some p)
+  no_text f = by_name (slice_get (inputs fs) p.file)
     where
-      by_name : (o : Option (List ℕ)) → refused rule ≡ line_in rule o (slice_get texts p.file) p.at
+      by_name : (o : Option (List ℕ)) → codes "-" ≡ place_in o (slice_get texts p.file) p.at
       by_name None = refl
       by_name (Some name) = rw (← f) refl

@@ -7,18 +7,20 @@ use Rattle.edit_writer.specs.declared.edits.Edit.{Edit}
 use Rattle.source_files.specs.Held.{StopsAt, Missing, Failed}
 use Rattle.refactor_app.specs.declared.status.Status.{Status}
 use Rattle.refactor_app.specs.declared.status.Status.TheVariants as s
-use Rattle.refactor_app.specs.Words.{Request, inputs, IsAlone, out_name}
+use Rattle.refactor_app.specs.Words.{Files, Request, inputs, IsAlone, Asks, out_name}
 use Rattle.report_text.specs.Report.{usage, edit_report, missing, read_fault, write_fault}
 use Rattle.refactor_app.specs.Verdicts.{Changes}
 use Rattle.refactor_app.specs.Declarations.{AreDeclared}
 use Rattle.refactor_app.specs.Refusals.{AsksFew, HasDeclared, Refusal}
+use Rattle.refactor_app.specs.Checking.{Passes}
 
 -- the change of a file, its only one, that the words ask for
 pub record IsChange (words : List (List ℕ)) (old : Option Look) (q : Request) (made : List ℕ) (edit : Edit) : Type 0 where
   pub text : List ℕ
   pub names : List (List ℕ)
   pub unit : SourceUnit
-  pub declared : HasDeclared words old q (text ∷ []) names (unit ∷ [])
+  pub asks : Asks words q
+  pub declared : HasDeclared words old q.files (text ∷ []) names (unit ∷ [])
   pub alone : IsAlone q
   pub changes : Changes q text made edit
   -- The new file's declarations break no rule either, and the members of its types none.
@@ -41,13 +43,23 @@ module _ (words : List (List ℕ)) (old new : Option Look) (before after : Optio
     pub nothing : NothingWritten
 
   -- Done: the new file holds the text of the edit, every other name is as before, and the report tells the edit.
-  pub record IsDone : Type 0 where
+  pub record IsChangeDone : Type 0 where
     pub q : Request
     pub made : List ℕ
     pub edit : Edit
     pub change : IsChange words old q made edit
     pub written : WhereTold old new (PutsAt (out_name q) made)
     pub report : Puts (edit_report q.file edit)
+
+  -- Done: the files that are checked break no rule.
+  pub record IsCheckDone : Type 0 where
+    pub line : List ℕ
+    pub passes : Passes words old line
+    pub report : Puts line
+    pub nothing : NothingWritten
+
+  abbrev pub IsDone : Type 0
+  IsDone = IsChangeDone ⊎ IsCheckDone
 
   -- the first rule that stands against the words and the files
   pub record IsRefused : Type 0 where
@@ -58,23 +70,23 @@ module _ (words : List (List ℕ)) (old new : Option Look) (before after : Optio
 
   -- the first file that is absent
   pub record IsMissing : Type 0 where
-    pub q : Request
-    pub asks : AsksFew words q
+    pub fs : Files
+    pub asks : AsksFew words fs
     pub file : ℕ
     pub name : List ℕ
-    pub named : slice_get (inputs q) file ≡ Some name
-    pub absent : StopsAt old 0 (inputs q) file Missing
+    pub named : slice_get (inputs fs) file ≡ Some name
+    pub absent : StopsAt old 0 (inputs fs) file Missing
     pub report : Puts (missing name)
     pub nothing : NothingWritten
 
   -- the first file whose read failed
   pub record IsReadFault : Type 0 where
-    pub q : Request
-    pub asks : AsksFew words q
+    pub fs : Files
+    pub asks : AsksFew words fs
     pub file : ℕ
     pub name : List ℕ
-    pub named : slice_get (inputs q) file ≡ Some name
-    pub unread : StopsAt old 0 (inputs q) file Failed
+    pub named : slice_get (inputs fs) file ≡ Some name
+    pub unread : StopsAt old 0 (inputs fs) file Failed
     pub report : Puts (read_fault name)
     pub nothing : NothingWritten
 

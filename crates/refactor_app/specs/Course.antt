@@ -9,9 +9,10 @@ use Rattle.source_files.specs.Held.{StopsAt, Missing, Failed}
 use Rattle.report_text.specs.Report.{usage, edit_report, missing, read_fault, write_fault}
 use Rattle.refactor_app.specs.declared.status.Status.{Status}
 use Rattle.refactor_app.specs.declared.status.Status.TheVariants as s
-use Rattle.refactor_app.specs.Words.{Request, inputs, out_name}
+use Rattle.refactor_app.specs.Words.{Files, Request, inputs, out_name}
 use Rattle.refactor_app.specs.Verdicts.{Refuses, Changes}
 use Rattle.refactor_app.specs.Refusals.{AsksFew, Refusal}
+use Rattle.refactor_app.specs.Checking.{Passes}
 use Rattle.refactor_app.specs.Answers.{IsChange, Ends}
 
 -- The files before and after, what was put before and after, and each count before and after.
@@ -32,11 +33,12 @@ IsAsked words a = IsChange words a.holds
 
 pub data Course (words : List (List ℕ)) (a b : Moment) (status : Status) : Type 0 where
   usages : {rule : ℕ} → IsLowest words rule → b.holds ≡ a.holds → EndsAt a b (usage rule) s.Usage status → Course words a b status
-  absent : {q : Request} (k : ℕ) (name : List ℕ) → AsksFew words q → slice_get (inputs q) k ≡ Some name → StopsAt a.holds 0 (inputs q) k Missing → Rose a.misses b.misses
+  absent : {fs : Files} (k : ℕ) (name : List ℕ) → AsksFew words fs → slice_get (inputs fs) k ≡ Some name → StopsAt a.holds 0 (inputs fs) k Missing → Rose a.misses b.misses
       → b.holds ≡ a.holds → EndsAt a b (missing name) s.Missing status → Course words a b status
-  unread : {q : Request} (k : ℕ) (name : List ℕ) → AsksFew words q → slice_get (inputs q) k ≡ Some name → StopsAt a.holds 0 (inputs q) k Failed → Rose a.read_faults b.read_faults
+  unread : {fs : Files} (k : ℕ) (name : List ℕ) → AsksFew words fs → slice_get (inputs fs) k ≡ Some name → StopsAt a.holds 0 (inputs fs) k Failed → Rose a.read_faults b.read_faults
       → b.holds ≡ a.holds → EndsAt a b (read_fault name) s.ReadFault status → Course words a b status
   refuses : {line : List ℕ} → Refusal words a.holds line → b.holds ≡ a.holds → EndsAt a b line s.Refused status → Course words a b status
+  checks : {line : List ℕ} → Passes words a.holds line → b.holds ≡ a.holds → EndsAt a b line s.Done status → Course words a b status
   writes : {q : Request} {made : List ℕ} {e : Edit} → IsAsked words a q made e → WhereTold a.holds b.holds (PutsAt (out_name q) made)
       → EndsAt a b (edit_report q.file e) s.Done status → Course words a b status
   fails : {q : Request} {made : List ℕ} {e : Edit} → IsAsked words a q made e → WhereTold a.holds b.holds (SameBut (out_name q)) → Rose a.write_faults b.write_faults

@@ -1,4 +1,4 @@
--- The program that a request's files declare, and the line of a rule that its declarations break.
+-- The program that files declare, and the line of a rule that it breaks.
 use Rattle.std.specs.Prelude.{ℕ, ◌⊎◌, List, ◌++◌, take, drop, Option, Some, None, option_and_then, slice_get, codes}
 use Rattle.std.specs.Fmt.{decimal}
 use Rattle.java_tree.specs.Plain.{SourceUnit}
@@ -13,8 +13,8 @@ use Rattle.decl_table.specs.Judged.{IsProgram}
 use Rattle.member_table.specs.Table.{MemberBreaches}
 use Rattle.node_places.specs.declared.place.NodePlace.{NodePlace}
 use Rattle.node_places.specs.Places.{place_of}
-use Rattle.report_text.specs.Report.{refused, refused_at}
-use Rattle.refactor_app.specs.Words.{Request, inputs}
+use Rattle.report_text.specs.Report.{place_text, refused_place}
+use Rattle.refactor_app.specs.Words.{Files, inputs}
 use Rattle.built_in_types.specs.BuiltIns.{with_words}
 
 -- Of these trees so many first ones are those of user files, and the others those of library files. The table of names has those of the files first, and
@@ -54,15 +54,19 @@ letters family.E = codes "E"
 letters family.P = codes "P"
 letters family.I = codes "I"
 
--- at a byte of a file, where there are such a file and its text
-abbrev pub line_in : (rule : List ℕ) → (file text : Option (List ℕ)) → (at : ℕ) → List ℕ
-line_in rule (Some file) (Some text) at = refused_at rule file (place_at text at)
-line_in rule _ _ at = refused rule
+-- FILE:LINE:COL of a byte of a file, or `-` where there are no such file and text
+abbrev pub place_in : (file text : Option (List ℕ)) → (at : ℕ) → List ℕ
+place_in (Some file) (Some text) at = place_text file (place_at text at)
+place_in _ _ at = codes "-"
 
-abbrev pub line_at : (rule : List ℕ) → Request → (texts : List (List ℕ)) → Option NodePlace → List ℕ
-line_at rule q texts None = refused rule
-line_at rule q texts (Some p) = line_in rule (slice_get (inputs q) p.file) (slice_get texts p.file) p.at
+abbrev pub place_name : Files → (texts : List (List ℕ)) → Option NodePlace → List ℕ
+place_name fs texts None = codes "-"
+place_name fs texts (Some p) = place_in (slice_get (inputs fs) p.file) (slice_get texts p.file) p.at
 
--- The line of a broken rule: at the first byte of its node, or without a place where it has no node.
-abbrev pub broken_line : Request → (texts : List (List ℕ)) → List SourceUnit → Broken → List ℕ
-broken_line q texts units b = line_at (letters b.family ++ decimal b.number) q texts (option_and_then (place_of units) b.node)
+-- the PLACE of a node, its first byte; `-` where there is no node
+abbrev pub node_name : Files → (texts : List (List ℕ)) → List SourceUnit → Option ℕ → List ℕ
+node_name fs texts units node = place_name fs texts (option_and_then (place_of units) node)
+
+-- the line of a broken rule, at its node
+abbrev pub broken_line : Files → (texts : List (List ℕ)) → List SourceUnit → Broken → List ℕ
+broken_line fs texts units b = refused_place (letters b.family ++ decimal b.number) (node_name fs texts units b.node)

@@ -7,6 +7,8 @@ pub mod Small
 pub mod Declarations
 pub mod Judged
 pub mod Refusals
+pub mod Checking
+pub mod Checked
 pub mod Stops
 pub mod Answers
 pub mod Course

@@ -1,13 +1,17 @@
 -- What words and files come to, where no read, write or put fails; and that answers exclude each other.
 use Rattle.std.specs.Prelude.{◌≡◌, ℕ, List, Option, Some, slice_get, codes}
 use Rattle.java_tree.specs.Names.{built_in_names}
+use Rattle.java_tree.specs.Plain.{SourceUnit}
 use Rattle.tool_files.specs.Told.{Look}
 use Rattle.command_words.specs.Rules.{IsLowest}
 use Rattle.edit_writer.specs.declared.edits.Edit.{Edit}
 use Rattle.source_files.specs.Held.{StopsAt, Missing}
 use Rattle.source_files.specs.Trees.{BreaksAt, NoTree}
-use Rattle.refactor_app.specs.Words.{Request, inputs}
-use Rattle.refactor_app.specs.Refusals.{AsksFew, HasRead, IsAt, Refusal}
+use Rattle.checker.specs.Checking.{IsIllTyped}
+use Rattle.refactor_app.specs.Words.{Files, Request, inputs, AsksCheck}
+use Rattle.refactor_app.specs.Declarations.{broken_line}
+use Rattle.refactor_app.specs.Refusals.{AsksFew, HasRead, HasDeclared, IsAt, type_rule, Refusal}
+use Rattle.refactor_app.specs.Checking.{Passes}
 use Rattle.refactor_app.specs.Answers.{IsChange}
 
 pub data Outcome : Type 0 where
@@ -15,33 +19,54 @@ pub data Outcome : Type 0 where
   Absent : (name : List ℕ) → Outcome
   Refused : (line : List ℕ) → Outcome
   Changed : (q : Request) (made : List ℕ) (edit : Edit) → Outcome
+  Judged : (report : List ℕ) → Outcome
 
 -- the first file that is absent has this name
 pub record IsFirstAbsent (words : List (List ℕ)) (old : Option Look) (name : List ℕ) : Type 0 where
-  pub q : Request
+  pub fs : Files
   pub file : ℕ
-  pub asks : AsksFew words q
-  pub named : slice_get (inputs q) file ≡ Some name
-  pub absent : StopsAt old 0 (inputs q) file Missing
+  pub asks : AsksFew words fs
+  pub named : slice_get (inputs fs) file ≡ Some name
+  pub absent : StopsAt old 0 (inputs fs) file Missing
 
 abbrev pub ComesTo : List (List ℕ) → Option Look → Outcome → Type 0
 ComesTo words old (Misused rule) = IsLowest words rule
 ComesTo words old (Absent name) = IsFirstAbsent words old name
 ComesTo words old (Refused line) = Refusal words old line
 ComesTo words old (Changed q made edit) = IsChange words old q made edit
+ComesTo words old (Judged report) = Passes words old report
 
 -- the line says that the file with this number has no tree, at one of its places
-pub record IsTreeless (words : List (List ℕ)) (old : Option Look) (q : Request) (texts : List (List ℕ)) (file : ℕ) (line : List ℕ) : Type 0 where
+pub record IsTreeless (words : List (List ℕ)) (old : Option Look) (fs : Files) (texts : List (List ℕ)) (file : ℕ) (line : List ℕ) : Type 0 where
   pub at : ℕ
-  pub read : HasRead words old q texts
+  pub read : HasRead words old fs texts
   pub breaks : BreaksAt built_in_names 0 0 texts file (NoTree at)
-  pub tells : IsAt (codes "G1") q texts file at line
+  pub tells : IsAt (codes "G1") fs texts file at line
 
 -- both say so of one file
 abbrev pub AreTreeless : List (List ℕ) → Option Look → Outcome → Outcome → Type 0
 AreTreeless words old (Refused a) (Refused b) =
-    (q : Request) × (texts : List (List ℕ)) × (file : ℕ) × IsTreeless words old q texts file a × IsTreeless words old q texts file b
+    (fs : Files) × (texts : List (List ℕ)) × (file : ℕ) × IsTreeless words old fs texts file a × IsTreeless words old fs texts file b
 AreTreeless words old _ _ = ⊥
+
+-- the line names a broken rule on types
+pub record IsTypeRefusal (words : List (List ℕ)) (old : Option Look) (line : List ℕ) : Type 0 where
+  pub fs : Files
+  pub texts : List (List ℕ)
+  pub names : List (List ℕ)
+  pub units : List SourceUnit
+  pub node : ℕ
+  pub rule : ℕ
+  pub asks : AsksCheck words fs
+  pub declared : HasDeclared words old fs texts names units
+  pub broken : IsIllTyped declared.declared.program declared.declared.world node rule
+  pub is : line ≡ broken_line fs texts units (type_rule node rule)
+
+-- what a check says of types
+abbrev pub IsOfTypes : List (List ℕ) → Option Look → Outcome → Type 0
+IsOfTypes words old (Refused line) = IsTypeRefusal words old line
+IsOfTypes words old (Judged report) = Passes words old report
+IsOfTypes words old _ = ⊥
 
 -- No two calls on the same words and files, whose contents are told, have these answers, whatever is held and put behind them.
 abbrev pub Excludes : (P Q : List (List ℕ) → Option Look → Option Look → Option (List ℕ) → Option (List ℕ) → Type 0) → Type 0

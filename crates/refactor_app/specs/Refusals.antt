@@ -4,63 +4,72 @@ use Rattle.std.specs.Fmt.{decimal}
 use Rattle.java_tree.specs.Names.{built_in_names}
 use Rattle.java_tree.specs.Plain.{SourceUnit}
 use Rattle.java_tree.specs.declared.fault.Broken.{Broken}
+use Rattle.java_tree.specs.declared.fault.Family.TheVariants as family
 use Rattle.tool_files.specs.Told.{Look}
 use Rattle.edit_writer.specs.Places.{place_at}
 use Rattle.source_files.specs.Held.{AreHeld, StopsAt, TooLarge, TooMuch}
 use Rattle.source_files.specs.Trees.{AreTrees, BreaksAt, Fault, Lexical, Tokens, LeftOut, NoTree}
 use Rattle.report_text.specs.Report.{refused, refused_at}
-use Rattle.refactor_app.specs.Words.{Request, inputs, IsAlone, Asks, AskOther}
+use Rattle.checker.specs.Checking.{IsIllTyped}
+use Rattle.refactor_app.specs.Words.{Files, Request, inputs, IsAlone, Asks, AsksCheck, Uses, AskOther}
 use Rattle.refactor_app.specs.Verdicts.{Refuses}
 use Rattle.refactor_app.specs.Declarations.{AreDeclared, IsBroken, broken_line}
 
 abbrev pub most_files : ℕ
 most_files = 256
 
--- the words ask for it, for no more files than there may be
-pub record AsksFew (words : List (List ℕ)) (q : Request) : Type 0 where
-  pub asks : Asks words q
-  pub few : length (inputs q) ≤ most_files
+-- the words ask for a command on these files, of which there are no more than there may be
+pub record AsksFew (words : List (List ℕ)) (fs : Files) : Type 0 where
+  pub uses : Uses words fs
+  pub few : length (inputs fs) ≤ most_files
 
 -- and these are what the files hold, where contents are told
-pub record HasRead (words : List (List ℕ)) (look : Option Look) (q : Request) (texts : List (List ℕ)) : Type 0 where
-  pub asks : AsksFew words q
-  pub held : AreHeld look 0 (inputs q) texts
+pub record HasRead (words : List (List ℕ)) (look : Option Look) (fs : Files) (texts : List (List ℕ)) : Type 0 where
+  pub asks : AsksFew words fs
+  pub held : AreHeld look 0 (inputs fs) texts
 
 -- and these are their trees
-pub record HasParsed (words : List (List ℕ)) (look : Option Look) (q : Request) (texts : List (List ℕ)) (names : List (List ℕ)) (units : List SourceUnit) : Type 0 where
-  pub read : HasRead words look q texts
+pub record HasParsed (words : List (List ℕ)) (look : Option Look) (fs : Files) (texts : List (List ℕ)) (names : List (List ℕ)) (units : List SourceUnit) : Type 0 where
+  pub read : HasRead words look fs texts
   pub trees : AreTrees built_in_names 0 0 texts units names
 
 -- whose declarations break no rule
-pub record HasDeclared (words : List (List ℕ)) (look : Option Look) (q : Request) (texts : List (List ℕ)) (names : List (List ℕ)) (units : List SourceUnit) : Type 0 where
-  pub parsed : HasParsed words look q texts names units
-  pub declared : AreDeclared (length q.users) names units
+pub record HasDeclared (words : List (List ℕ)) (look : Option Look) (fs : Files) (texts : List (List ℕ)) (names : List (List ℕ)) (units : List SourceUnit) : Type 0 where
+  pub parsed : HasParsed words look fs texts names units
+  pub declared : AreDeclared (length fs.users) names units
 
 -- a refusal at a byte of the file with this number
-pub record IsAt (rule : List ℕ) (q : Request) (texts : List (List ℕ)) (k at : ℕ) (line : List ℕ) : Type 0 where
+pub record IsAt (rule : List ℕ) (fs : Files) (texts : List (List ℕ)) (k at : ℕ) (line : List ℕ) : Type 0 where
   pub name : List ℕ
   pub text : List ℕ
-  pub named : slice_get (inputs q) k ≡ Some name
+  pub named : slice_get (inputs fs) k ≡ Some name
   pub there : slice_get texts k ≡ Some text
   pub is : line ≡ refused_at rule name (place_at text at)
 
-abbrev pub Tells : Request → List (List ℕ) → ℕ → Fault → List ℕ → Type 0
-Tells q texts k (Lexical rule at) line = IsAt (codes "X" ++ decimal rule) q texts k at line
-Tells q texts k Tokens line = line ≡ refused (codes "L4")
-Tells q texts k (LeftOut rule at) line = IsAt (codes "S" ++ decimal rule) q texts k at line
-Tells q texts k (NoTree at) line = IsAt (codes "G1") q texts k at line
+abbrev pub Tells : Files → List (List ℕ) → ℕ → Fault → List ℕ → Type 0
+Tells fs texts k (Lexical rule at) line = IsAt (codes "X" ++ decimal rule) fs texts k at line
+Tells fs texts k Tokens line = line ≡ refused (codes "L4")
+Tells fs texts k (LeftOut rule at) line = IsAt (codes "S" ++ decimal rule) fs texts k at line
+Tells fs texts k (NoTree at) line = IsAt (codes "G1") fs texts k at line
 
--- The rules in their order: N1, L1, the sizes of the files, their texts, the declarations of the program, and then what stands against a request on one file.
+-- a rule on types, at a node
+abbrev pub type_rule : (node rule : ℕ) → Broken
+type_rule node rule = record { family = family.T; number = rule; node = Some node }
+
+-- The rules in their order: N1, L1, the sizes of the files, their texts, the declarations of the program, and then what stands against a check, or against a
+-- change of one file.
 pub data Refusal (words : List (List ℕ)) (look : Option Look) : List ℕ → Type 0 where
   n1 : AskOther words → Refusal words look (refused (codes "N1"))
-  l1 : (q : Request) → Asks words q → most_files < length (inputs q) → Refusal words look (refused (codes "L1"))
-  l2 : (q : Request) (k : ℕ) → AsksFew words q → StopsAt look 0 (inputs q) k TooLarge → Refusal words look (refused (codes "L2"))
-  l3 : (q : Request) (k : ℕ) → AsksFew words q → StopsAt look 0 (inputs q) k TooMuch → Refusal words look (refused (codes "L3"))
-  broken : (q : Request) (texts : List (List ℕ)) (k : ℕ) (fault : Fault) {line : List ℕ} → HasRead words look q texts → BreaksAt built_in_names 0 0 texts k fault
-      → Tells q texts k fault line → Refusal words look line
-  declared : (q : Request) (texts names : List (List ℕ)) (units : List SourceUnit) (b : Broken) → HasParsed words look q texts names units → IsBroken (length q.users) names units b
-      → Refusal words look (broken_line q texts units b)
-  n2 : (q : Request) (texts names : List (List ℕ)) (units : List SourceUnit) → HasDeclared words look q texts names units → (IsAlone q → ⊥)
+  l1 : (fs : Files) → Uses words fs → most_files < length (inputs fs) → Refusal words look (refused (codes "L1"))
+  l2 : (fs : Files) (k : ℕ) → AsksFew words fs → StopsAt look 0 (inputs fs) k TooLarge → Refusal words look (refused (codes "L2"))
+  l3 : (fs : Files) (k : ℕ) → AsksFew words fs → StopsAt look 0 (inputs fs) k TooMuch → Refusal words look (refused (codes "L3"))
+  broken : (fs : Files) (texts : List (List ℕ)) (k : ℕ) (fault : Fault) {line : List ℕ} → HasRead words look fs texts → BreaksAt built_in_names 0 0 texts k fault
+      → Tells fs texts k fault line → Refusal words look line
+  declared : (fs : Files) (texts names : List (List ℕ)) (units : List SourceUnit) (b : Broken) → HasParsed words look fs texts names units → IsBroken (length fs.users) names units b
+      → Refusal words look (broken_line fs texts units b)
+  typed : (fs : Files) (texts names : List (List ℕ)) (units : List SourceUnit) (node rule : ℕ) → AsksCheck words fs → (h : HasDeclared words look fs texts names units)
+      → IsIllTyped h.declared.program h.declared.world node rule → Refusal words look (broken_line fs texts units (type_rule node rule))
+  n2 : (q : Request) (texts names : List (List ℕ)) (units : List SourceUnit) → Asks words q → HasDeclared words look q.files texts names units → (IsAlone q → ⊥)
       → Refusal words look (refused (codes "N2"))
-  refuses : (q : Request) (text : List ℕ) (names : List (List ℕ)) (u : SourceUnit) {line : List ℕ} → HasDeclared words look q (text ∷ []) names (u ∷ []) → IsAlone q
-      → Refuses q text line → Refusal words look line
+  refuses : (q : Request) (text : List ℕ) (names : List (List ℕ)) (u : SourceUnit) {line : List ℕ} → Asks words q → HasDeclared words look q.files (text ∷ []) names (u ∷ [])
+      → IsAlone q → Refuses q text line → Refusal words look line

@@ -8,16 +8,16 @@ use Rattle.source_files.specs.Trees.{Lexical, LeftOut, NoTree}
 use Rattle.report_text.specs.Report.{refused, missing, read_fault}
 use Rattle.refactor_app.specs.declared.status.Status.{Status}
 use Rattle.refactor_app.specs.declared.status.Status.TheVariants as s
-use Rattle.refactor_app.specs.Words.{Request}
+use Rattle.refactor_app.specs.Words.{Files}
 use Rattle.refactor_app.specs.Refusals.{Tells}
 use Rattle.refactor_app.specs.Answers.{Ends}
 
-abbrev pub TellsStop : Request → List (List ℕ) → TreeStop → List ℕ → Type 0
-TellsStop q texts (tree.Lexical rule file at) line = Tells q texts file (Lexical rule at) line
-TellsStop q texts tree.Tokens line = line ≡ refused (codes "L4")
-TellsStop q texts (tree.LeftOut rule file at) line = Tells q texts file (LeftOut rule at) line
-TellsStop q texts (tree.NoTree file at) line = Tells q texts file (NoTree at) line
-TellsStop q texts tree.NoMemory line = ⊥
+abbrev pub TellsStop : Files → List (List ℕ) → TreeStop → List ℕ → Type 0
+TellsStop fs texts (tree.Lexical rule file at) line = Tells fs texts file (Lexical rule at) line
+TellsStop fs texts tree.Tokens line = line ≡ refused (codes "L4")
+TellsStop fs texts (tree.LeftOut rule file at) line = Tells fs texts file (LeftOut rule at) line
+TellsStop fs texts (tree.NoTree file at) line = Tells fs texts file (NoTree at) line
+TellsStop fs texts tree.NoMemory line = ⊥
 
 -- the file is one of so many
 abbrev pub IsNamed : ℕ → ReadStop → Type 0

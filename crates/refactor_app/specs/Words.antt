@@ -1,28 +1,32 @@
 -- What the words of a call ask for.
-use Rattle.std.specs.Prelude.{◌≡◌, ◌≢◌, ℕ, List, [], ◌∷◌, ◌++◌}
+use Rattle.std.specs.Prelude.{◌≡◌, ◌≢◌, ◌⊎◌, ℕ, List, [], ◌∷◌, ◌++◌}
 use Rattle.command_words.specs.declared.table.Command.{Command}
 use Rattle.command_words.specs.declared.table.Command.TheVariants as c
 use Rattle.command_words.specs.Names.{IsNumber, within}
 use Rattle.command_words.specs.Table.{word_of, parts_of}
 use Rattle.command_words.specs.Rules.{Meets}
 
--- generalize OUT FILE LINE COL TYPE -- user files + library files
+-- user files + library files
+pub record Files : Type 0 where
+  pub users : List (List ℕ)
+  pub libs : List (List ℕ)
+
+-- all, in the order of the words
+abbrev pub inputs : Files → List (List ℕ)
+inputs fs = fs.users ++ fs.libs
+
+-- a change: generalize OUT FILE LINE COL TYPE -- files
 pub record Request : Type 0 where
   pub out : List ℕ
   pub file : List ℕ
   pub line : ℕ
   pub col : ℕ
   pub ty : List ℕ
-  pub users : List (List ℕ)
-  pub libs : List (List ℕ)
-
--- all files, in the order of the words
-abbrev pub inputs : Request → List (List ℕ)
-inputs q = q.users ++ q.libs
+  pub files : Files
 
 -- FILE is the only file
 abbrev pub IsAlone : Request → Type 0
-IsAlone q = inputs q ≡ q.file ∷ []
+IsAlone q = inputs q.files ≡ q.file ∷ []
 
 -- the words break no rule, and ask for it
 pub record Asks (words : List (List ℕ)) (q : Request) : Type 0 where
@@ -33,16 +37,29 @@ pub record Asks (words : List (List ℕ)) (q : Request) : Type 0 where
   pub own : (parts_of rest).own ≡ q.out ∷ q.file ∷ line ∷ col ∷ q.ty ∷ []
   pub at_line : IsNumber line q.line
   pub at_col : IsNumber col q.col
-  pub users : (parts_of rest).users ≡ q.users
-  pub libs : (parts_of rest).libs ≡ q.libs
+  pub users : (parts_of rest).users ≡ q.files.users
+  pub libs : (parts_of rest).libs ≡ q.files.libs
   pub meets : (n : ℕ) → Meets c.Generalize (parts_of rest) n
+
+-- the words break no rule, and ask for a check: check -- files
+pub record AsksCheck (words : List (List ℕ)) (fs : Files) : Type 0 where
+  pub rest : List (List ℕ)
+  pub are : words ≡ word_of c.Check ∷ rest
+  pub users : (parts_of rest).users ≡ fs.users
+  pub libs : (parts_of rest).libs ≡ fs.libs
+  pub meets : (n : ℕ) → Meets c.Check (parts_of rest) n
+
+-- they ask for a change or a check of these files
+abbrev pub Uses : List (List ℕ) → Files → Type 0
+Uses words fs = ((q : Request) × Asks words q × (q.files ≡ fs)) ⊎ AsksCheck words fs
 
 -- the words break no rule, and ask for something else
 pub record AskOther (words : List (List ℕ)) : Type 0 where
   pub command : Command
   pub rest : List (List ℕ)
   pub are : words ≡ word_of command ∷ rest
-  pub other : command ≢ c.Generalize
+  pub no_change : command ≢ c.Generalize
+  pub no_check : command ≢ c.Check
   pub meets : (n : ℕ) → Meets command (parts_of rest) n
 
 -- the name of the new file

@@ -1,17 +1,24 @@
-//! The words of a request for a change.
+//! What words ask for: a change or a check.
 
-ghost use Rattle.std.specs.Prelude.{◌≡◌, ℕ, map, List, ◌++◌, OnOk, IfOk, IfSome, IfNone};
+ghost use Rattle.std.specs.Prelude.{◌≡◌, ◌≢◌, ℕ, true, false, map, List, ◌++◌, OnOk, IfOk, IfSome, IfNone};
 ghost use Rattle.std.specs.String.{string_bytes};
-ghost use Rattle.command_words.specs.declared.table.Command.TheVariants as command;
+ghost use Rattle.command_words.specs.declared.table.Command.TheVariants as commands;
 ghost use Rattle.command_words.specs.Asked as asked_words;
 ghost use Rattle.refactor_app.specs.Words.{Asks, inputs};
-ghost use Rattle.refactor_app.specs.Asked.{request_of};
+ghost use Rattle.refactor_app.specs.Asked.{AsksTask, files_of, request_of, task_files};
 
-use command_words::Request;
+use command_words::{Command, Request};
 use java_tree::{Items, NoMemory};
 use std::alloc::Global;
 
-/// `generalize OUT FILE LINE COL TYPE` with user and library files. Lines and columns count from 1, columns in bytes.
+/// The user files and the library files of a command.
+#[derive(Clone, Copy)]
+pub struct Inputs<'a> {
+    pub users: &'a [String],
+    pub libs: &'a [String],
+}
+
+/// `generalize OUT FILE LINE COL TYPE` with its files. Lines and columns count from 1, columns in bytes.
 #[derive(Clone, Copy)]
 pub struct Asked<'a> {
     pub out: &'a str,
@@ -19,15 +26,41 @@ pub struct Asked<'a> {
     pub line: u64,
     pub col: u64,
     pub ty: &'a str,
-    pub users: &'a [String],
-    pub libs: &'a [String],
+    pub inputs: Inputs<'a>,
 }
 
-/// What a request asks for, where it asks for a change.
-pub fn change_asked<'a>(request: &Request<'a>) -> Option<Asked<'a>>
+/// What is to be done with the files.
+#[derive(Clone, Copy)]
+pub enum Task<'a> {
+    Change(Asked<'a>),
+    Check(Inputs<'a>),
+}
+
+impl<'a> Task<'a> {
+    pub fn inputs(&self) -> Inputs<'a>
+        ensures { files_of result ≡ task_files self.now }
+    {
+        match self {
+            Task::Change(q) => q.inputs,
+            Task::Check(inputs) => *inputs,
+        }
+    }
+}
+
+fn inputs_in<'a>(request: &Request<'a>) -> Inputs<'a>
+    ensures { result ≡ record { users = request.now.users; libs = request.now.libs } }
+{
+    Inputs {
+        users: request.users,
+        libs: request.libs,
+    }
+}
+
+// The change that a request asks for, where it asks for one.
+fn change_asked<'a>(request: &Request<'a>) -> Option<Asked<'a>>
     requires { (ws : List (List ℕ)) × asked_words.Asks ws request.now }
     ensures some { IfSome result (λ a. (ws : List (List ℕ)) → asked_words.Asks ws request.now → Asks ws (request_of a)) }
-    ensures none { IfNone result (request.now.command ≡ command.Generalize → ⊥) }
+    ensures none { IfNone result (request.now.command ≢ commands.Generalize) }
 {
     let named = request.generalize()?;
     Some(Asked {
@@ -36,9 +69,31 @@ pub fn change_asked<'a>(request: &Request<'a>) -> Option<Asked<'a>>
         line: named.line,
         col: named.col,
         ty: named.ty,
-        users: request.users,
-        libs: request.libs,
+        inputs: inputs_in(request),
     })
+}
+
+fn is_check(command: Command) -> bool
+    ensures yes { result ≡ true → command ≡ commands.Check }
+    ensures no { result ≡ false → command ≢ commands.Check }
+{
+    matches!(command, Command::Check)
+}
+
+/// What a request asks for, where it is a change or a check.
+pub fn task_of<'a>(request: &Request<'a>) -> Option<Task<'a>>
+    requires { (ws : List (List ℕ)) × asked_words.Asks ws request.now }
+    ensures some { IfSome result (λ t. (ws : List (List ℕ)) → asked_words.Asks ws request.now → AsksTask ws t) }
+    ensures no_change { IfNone result (request.now.command ≢ commands.Generalize) }
+    ensures no_check { IfNone result (request.now.command ≢ commands.Check) }
+{
+    if is_check(request.command) {
+        return Some(Task::Check(inputs_in(request)));
+    }
+    match change_asked(request) {
+        Some(q) => Some(Task::Change(q)),
+        None => None,
+    }
 }
 
 // Puts copies of names behind those of a list.
@@ -52,11 +107,11 @@ fn add_names(alloc: Global, names: &mut Items<String>, more: &[String]) -> Resul
 }
 
 /// The names of all files, in the order of the words.
-pub fn inputs_of(alloc: Global, q: &Asked<'_>) -> Result<Items<String>, NoMemory>
-    ensures { IfOk result (λ names. map string_bytes names ≡ inputs (request_of q.now)) }
+pub fn names_of(alloc: Global, files: &Inputs<'_>) -> Result<Items<String>, NoMemory>
+    ensures { IfOk result (λ names. map string_bytes names ≡ inputs (files_of files.now)) }
 {
     let mut names = Items::new(alloc);
-    add_names(alloc, &mut names, q.users)?;
-    add_names(alloc, &mut names, q.libs)?;
+    add_names(alloc, &mut names, files.users)?;
+    add_names(alloc, &mut names, files.libs)?;
     Ok(names)
 }

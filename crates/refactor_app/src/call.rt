@@ -4,24 +4,27 @@ ghost use Rattle.std.specs.Prelude.{◌≡◌, ◌≤◌, ℕ, List, length, map
 ghost use Rattle.std.specs.String.{string_bytes};
 ghost use Rattle.java_tree.specs.Names.{IsTable, built_in_names};
 ghost use Rattle.java_tree.specs.View.{unit_plain};
+ghost use Rattle.built_in_types.specs.BuiltIns.{with_words};
 ghost use Rattle.command_words.specs.Names.{IsIdentifier};
 ghost use Rattle.tool_files.specs.Told.{Rose};
 ghost use Rattle.source_files.specs.Held.{AreHeld};
 ghost use Rattle.source_files.specs.Trees.{AreTrees};
 ghost use Rattle.source_files.specs.Answers.{HasParsed};
 ghost use Rattle.refactor_app.specs.Words.{inputs, Asks};
-ghost use Rattle.refactor_app.specs.Asked.{request_of};
+ghost use Rattle.refactor_app.specs.Asked.{AsksTask, HasType, request_of, task_files};
 ghost use Rattle.refactor_app.specs.Answers as answers;
 ghost use Rattle.refactor_app.specs.Answers.{IsDone, IsRefused, IsUsage, IsWriteFault, IsOutFault, Ends};
 ghost use Rattle.refactor_app.specs.Small.{HasUnit};
 ghost use Rattle.refactor_app.specs.Declarations.{AreDeclared};
+ghost use Rattle.refactor_app.specs.Judged.{AreDeclaredAs};
 ghost use Rattle.refactor_app.specs.Refusals.{AsksFew};
 ghost use Rattle.refactor_app.specs.Course.{Moment, Course, Finishes, Sequel};
 ghost use Rattle.refactor_app.specs.Stops.{IsNamed, Stops};
 
-use crate::asked::{Asked, change_asked, inputs_of};
+use crate::asked::{Asked, Task, names_of, task_of};
+use crate::check::{CheckAnswer, check};
 use crate::decide::{Changed, Verdict, decide};
-use crate::declarations::judge_declarations;
+use crate::declarations::{Declared, judge_declarations};
 use crate::first_names::first_of;
 use crate::lines::{broken_line, stop_line};
 use crate::status::Status;
@@ -91,9 +94,9 @@ fn answer<F: Files, K: Sink>(
     }
 }
 
-// What becomes of a request on files with these texts and trees, whose declarations break no rule. A small program is one file. The first `count` names are
+// What becomes of a change of files with these texts and trees, whose declarations break no rule. A small program is one file. The first `count` names are
 // those of the texts.
-fn on_declared<F: Files, K: Sink>(
+fn on_change<F: Files, K: Sink>(
     alloc: Global,
     q: &Asked<'_>,
     texts: &[Items<u8>],
@@ -104,15 +107,15 @@ fn on_declared<F: Files, K: Sink>(
     out: &mut K,
 ) -> Status
     requires word { IsIdentifier q.now.ty.now }
-    requires held { AreHeld (F.holds files.old) 0 (inputs (request_of q.now)) texts.now }
+    requires held { AreHeld (F.holds files.old) 0 (inputs (request_of q.now).files) texts.now }
     requires table { IsTable table.now }
     requires within { count ≤ length table.now }
     requires built_in { 19 ≤ count }
     requires trees { AreTrees built_in_names 0 0 texts.now (map unit_plain units) (take count table.now) }
-    requires declared { AreDeclared (length (request_of q.now).users) (take count table.now) (map unit_plain units) }
+    requires declared { AreDeclared (length (request_of q.now).files.users) (take count table.now) (map unit_plain units) }
     ensures { let a : Moment = record { holds = F.holds files.old; misses = F.misses files.old; read_faults = F.read_faults files.old; write_faults = F.write_faults files.old; put = K.written out.old; faults = K.faults out.old } in
         let b : Moment = record { holds = F.holds files.new; misses = F.misses files.new; read_faults = F.read_faults files.new; write_faults = F.write_faults files.new; put = K.written out.new; faults = K.faults out.new } in
-        (words : List (List ℕ)) → AsksFew words (request_of q.now) → Course words a b result }
+        (words : List (List ℕ)) → Asks words (request_of q.now) → AsksFew words (request_of q.now).files → Course words a b result }
 {
     if texts.len() != 1 {
         return put(out, b"refused N2 -\n", Status::Refused);
@@ -126,28 +129,72 @@ fn on_declared<F: Files, K: Sink>(
     }
 }
 
-// What becomes of a request on files with these texts and trees.
+// What becomes of a task on files with these texts and trees, whose declarations break no rule and say this. The first `count` names are those of the texts, and
+// those behind them are what the built-in types need.
+fn on_declared<F: Files, K: Sink>(
+    alloc: Global,
+    task: &Task<'_>,
+    file_names: &[String],
+    texts: &[Items<u8>],
+    table: &Names,
+    count: u32,
+    units: Items<SourceUnit>,
+    declared: &Declared,
+    files: &mut F,
+    out: &mut K,
+) -> Status
+    requires word { HasType task.now }
+    requires names { map string_bytes file_names.now ≡ inputs (task_files task.now) }
+    requires held { AreHeld (F.holds files.old) 0 (inputs (task_files task.now)) texts.now }
+    requires table { IsTable table.now }
+    requires words { table.now ≡ with_words (take count table.now) }
+    requires within { count ≤ length table.now }
+    requires built_in { 19 ≤ count }
+    requires trees { AreTrees built_in_names 0 0 texts.now (map unit_plain units) (take count table.now) }
+    requires declared { AreDeclaredAs (length (task_files task.now).users) (take count table.now) (map unit_plain units) declared.now }
+    ensures { let a : Moment = record { holds = F.holds files.old; misses = F.misses files.old; read_faults = F.read_faults files.old; write_faults = F.write_faults files.old; put = K.written out.old; faults = K.faults out.old } in
+        let b : Moment = record { holds = F.holds files.new; misses = F.misses files.new; read_faults = F.read_faults files.new; write_faults = F.write_faults files.new; put = K.written out.new; faults = K.faults out.new } in
+        (words : List (List ℕ)) → AsksTask words task.now → AsksFew words (task_files task.now) → Course words a b result }
+{
+    match task {
+        Task::Change(q) => on_change(alloc, q, texts, table, count, units, files, out),
+        Task::Check(inputs) => {
+            let users = inputs.users.len();
+            let units = units.as_slice();
+            match check(alloc, file_names, texts, units, users, table, declared) {
+                Ok(CheckAnswer::Refused(line)) => put(out, line.as_bytes(), Status::Refused),
+                Ok(CheckAnswer::Passed(report)) => put(out, report.as_bytes(), Status::Done),
+                Err(_) => Status::NoMemory,
+            }
+        }
+    }
+}
+
+// What becomes of a task on files with these texts and trees.
 fn on_trees<F: Files, K: Sink>(
     alloc: Global,
-    q: &Asked<'_>,
+    task: &Task<'_>,
     file_names: &[String],
     texts: &[Items<u8>],
     parsed: Parsed,
     files: &mut F,
     out: &mut K,
 ) -> Status
-    requires word { IsIdentifier q.now.ty.now }
-    requires names { map string_bytes file_names.now ≡ inputs (request_of q.now) }
-    requires held { AreHeld (F.holds files.old) 0 (inputs (request_of q.now)) texts.now }
+    requires word { HasType task.now }
+    requires names { map string_bytes file_names.now ≡ inputs (task_files task.now) }
+    requires held { AreHeld (F.holds files.old) 0 (inputs (task_files task.now)) texts.now }
     requires trees { HasParsed texts.now (Ok parsed) }
     ensures { let a : Moment = record { holds = F.holds files.old; misses = F.misses files.old; read_faults = F.read_faults files.old; write_faults = F.write_faults files.old; put = K.written out.old; faults = K.faults out.old } in
         let b : Moment = record { holds = F.holds files.new; misses = F.misses files.new; read_faults = F.read_faults files.new; write_faults = F.write_faults files.new; put = K.written out.new; faults = K.faults out.new } in
-        (words : List (List ℕ)) → AsksFew words (request_of q.now) → Course words a b result }
+        (words : List (List ℕ)) → AsksTask words task.now → AsksFew words (task_files task.now) → Course words a b result }
 {
     let Parsed { mut names, units } = parsed;
     let count = names.len() as u32;
-    match judge_declarations(alloc, q.users.len(), units.as_slice(), &mut names) {
-        Ok(()) => on_declared(alloc, q, texts, &names, count, units, files, out),
+    let users = task.inputs().users.len();
+    match judge_declarations(alloc, users, units.as_slice(), &mut names) {
+        Ok(declared) => on_declared(
+            alloc, task, file_names, texts, &names, count, units, &declared, files, out,
+        ),
         Err(Fault::Broken(broken)) => {
             let line = broken_line(alloc, file_names, texts, units.as_slice(), broken);
             put_made(out, line, Status::Refused)
@@ -156,25 +203,25 @@ fn on_trees<F: Files, K: Sink>(
     }
 }
 
-// What becomes of a request on files with these texts.
+// What becomes of a task on files with these texts.
 fn on_texts<F: Files, K: Sink>(
     alloc: Global,
-    q: &Asked<'_>,
+    task: &Task<'_>,
     names: &[String],
     texts: &[Items<u8>],
     files: &mut F,
     out: &mut K,
 ) -> Status
-    requires word { IsIdentifier q.now.ty.now }
-    requires names { map string_bytes names.now ≡ inputs (request_of q.now) }
+    requires word { HasType task.now }
+    requires names { map string_bytes names.now ≡ inputs (task_files task.now) }
     requires few { length names.now ≤ 256 }
-    requires held { AreHeld (F.holds files.old) 0 (inputs (request_of q.now)) texts.now }
+    requires held { AreHeld (F.holds files.old) 0 (inputs (task_files task.now)) texts.now }
     ensures { let a : Moment = record { holds = F.holds files.old; misses = F.misses files.old; read_faults = F.read_faults files.old; write_faults = F.write_faults files.old; put = K.written out.old; faults = K.faults out.old } in
         let b : Moment = record { holds = F.holds files.new; misses = F.misses files.new; read_faults = F.read_faults files.new; write_faults = F.write_faults files.new; put = K.written out.new; faults = K.faults out.new } in
-        (words : List (List ℕ)) → AsksFew words (request_of q.now) → Course words a b result }
+        (words : List (List ℕ)) → AsksTask words task.now → AsksFew words (task_files task.now) → Course words a b result }
 {
     match parse_files(alloc, texts) {
-        Ok(parsed) => on_trees(alloc, q, names, texts, parsed, files, out),
+        Ok(parsed) => on_trees(alloc, task, names, texts, parsed, files, out),
         Err(stop) => put_made(out, stop_line(alloc, names, texts, stop), Status::Refused),
     }
 }
@@ -199,40 +246,41 @@ fn stop<K: Sink>(alloc: Global, names: &[String], stop: ReadStop, out: &mut K) -
     }
 }
 
-// Reads the files of a request and answers it.
+// Reads the files of a task and does it.
 fn on_files<F: Files, K: Sink>(
     alloc: Global,
-    q: &Asked<'_>,
+    task: &Task<'_>,
     names: &[String],
     files: &mut F,
     out: &mut K,
 ) -> Status
-    requires word { IsIdentifier q.now.ty.now }
-    requires names { map string_bytes names.now ≡ inputs (request_of q.now) }
+    requires word { HasType task.now }
+    requires names { map string_bytes names.now ≡ inputs (task_files task.now) }
     requires few { length names.now ≤ 256 }
     ensures { let a : Moment = record { holds = F.holds files.old; misses = F.misses files.old; read_faults = F.read_faults files.old; write_faults = F.write_faults files.old; put = K.written out.old; faults = K.faults out.old } in
         let b : Moment = record { holds = F.holds files.new; misses = F.misses files.new; read_faults = F.read_faults files.new; write_faults = F.write_faults files.new; put = K.written out.new; faults = K.faults out.new } in
-        (words : List (List ℕ)) → AsksFew words (request_of q.now) → Course words a b result }
+        (words : List (List ℕ)) → AsksTask words task.now → AsksFew words (task_files task.now) → Course words a b result }
 {
     match read_files(alloc, names, files) {
-        Ok(texts) => on_texts(alloc, q, names, texts.as_slice(), files, out),
+        Ok(texts) => on_texts(alloc, task, names, texts.as_slice(), files, out),
         Err(why) => stop(alloc, names, why, out),
     }
 }
 
-// A request for a change.
-fn change<F: Files, K: Sink>(alloc: Global, q: &Asked<'_>, files: &mut F, out: &mut K) -> Status
-    requires { IsIdentifier q.now.ty.now }
+// A task on its files.
+fn on_task<F: Files, K: Sink>(alloc: Global, task: &Task<'_>, files: &mut F, out: &mut K) -> Status
+    requires { HasType task.now }
     ensures { let a : Moment = record { holds = F.holds files.old; misses = F.misses files.old; read_faults = F.read_faults files.old; write_faults = F.write_faults files.old; put = K.written out.old; faults = K.faults out.old } in
         let b : Moment = record { holds = F.holds files.new; misses = F.misses files.new; read_faults = F.read_faults files.new; write_faults = F.write_faults files.new; put = K.written out.new; faults = K.faults out.new } in
-        (words : List (List ℕ)) → Asks words (request_of q.now) → Course words a b result }
+        (words : List (List ℕ)) → AsksTask words task.now → Course words a b result }
 {
-    match inputs_of(alloc, q) {
+    let inputs = task.inputs();
+    match names_of(alloc, &inputs) {
         Ok(names) => {
             if names.len() > MOST_FILES {
                 put(out, b"refused L1 -\n", Status::Refused)
             } else {
-                on_files(alloc, q, names.as_slice(), files, out)
+                on_files(alloc, task, names.as_slice(), files, out)
             }
         }
         Err(_) => Status::NoMemory,
@@ -247,16 +295,16 @@ fn run<F: Files, K: Sink>(alloc: Global, words: &[String], files: &mut F, out: &
 {
     match read_words(alloc, words) {
         Ok(Reading::Usage(rule)) => put_made(out, usage(alloc, rule), Status::Usage),
-        Ok(Reading::Asked(request)) => match change_asked(&request) {
-            Some(q) => change(alloc, &q, files, out),
+        Ok(Reading::Asked(request)) => match task_of(&request) {
+            Some(task) => on_task(alloc, &task, files, out),
             None => put(out, b"refused N1 -\n", Status::Refused),
         },
         Err(_) => Status::NoMemory,
     }
 }
 
-/// Changes a program as the words ask (`generalize OUT FILE LINE COL TYPE -- FILES + LIBRARY FILES`), and puts a report. LINE and COL count
-/// from 1, columns in bytes. Words are read for every command; those that are not built yet are refused as N1.
+/// Changes a program as the words ask (`generalize OUT FILE LINE COL TYPE -- FILES + LIBRARY FILES`), or checks it (`check -- FILES + LIBRARY FILES`), and puts
+/// a report. LINE and COL count from 1, columns in bytes. Words are read for every command; those that are not built yet are refused as N1.
 ///
 /// Where `files` and `out` tell what they hold, each answer says of it what its clause says. `NoMemory` is free, before the first write or put.
 pub fn refactor<F: Files, K: Sink>(
@@ -265,8 +313,9 @@ pub fn refactor<F: Files, K: Sink>(
     files: &mut F,
     out: &mut K,
 ) -> Status
-    // The new file holds the old bytes under the reported edit, every other name is as before, and the old and the new program
+    // Of a change: the new file holds the old bytes under the reported edit, every other name is as before, and the old and the new program
     // have their trees and types, and their declarations break no rule; the new tree is the old one with the one type changed.
+    // Of a check: the program breaks no rule, and the report names its unchecked operations; nothing is written.
     ensures done { result ≡ Status.Done → IsDone (map string_bytes words.now) (F.holds files.old) (F.holds files.new) (K.written out.old) (K.written out.new) }
     // This is the first rule or constraint that stands against the words and the files; nothing is written.
     ensures refused { result ≡ Status.Refused → IsRefused (map string_bytes words.now) (F.holds files.old) (F.holds files.new) (K.written out.old) (K.written out.new) }

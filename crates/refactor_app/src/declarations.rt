@@ -6,11 +6,19 @@ ghost use Rattle.java_tree.specs.View.{unit_plain};
 ghost use Rattle.built_in_types.specs.BuiltIns.{with_words};
 ghost use Rattle.refactor_app.specs.Judged.{AreJudged};
 
+use class_world::World;
 use decl_table::build;
 use java_tree::tree::SourceUnit;
 use java_tree::{Fault, Names};
-use member_table::tabulate;
+use member_table::{Members, tabulate};
 use std::alloc::Global;
+
+/// What the declarations of a program say.
+#[derive(Drop)]
+pub struct Declared {
+    pub world: World,
+    pub members: Members,
+}
 
 /// Judges the declarations of a program whose first files, so many, are the user's, and whose others are those of libraries: `Ok` where no rule is
 /// broken. Node numbers are those of the trees. The table gets the names that the built-in types need behind its own.
@@ -19,7 +27,7 @@ pub fn judge_declarations(
     users: usize,
     units: &[SourceUnit],
     names: &mut Names,
-) -> Result<(), Fault>
+) -> Result<Declared, Fault>
     requires users { users ≤ length units.now }
     requires few { length names.old < 2 ^ 31 }
     ensures kept { IsFront names.old names.new }
@@ -28,6 +36,6 @@ pub fn judge_declarations(
 {
     let (user, lib) = units.split_at(users);
     let world = build(alloc, user, lib, names)?;
-    tabulate(alloc, &world)?;
-    Ok(())
+    let members = tabulate(alloc, &world)?;
+    Ok(Declared { world, members })
 }

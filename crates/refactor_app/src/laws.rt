@@ -4,15 +4,16 @@ ghost use Rattle.std.specs.Prelude.{◌≡◌, ◌≢◌, ◌<◌, ◌≤◌, �
 ghost use Rattle.tool_files.specs.Told.{Look};
 ghost use Rattle.edit_writer.specs.declared.edits.Edit.{Edit};
 ghost use Rattle.source_files.specs.Held.{AreHeld, StopsAt, Stop, Missing, Failed};
-ghost use Rattle.refactor_app.specs.Words.{Request, inputs, Asks, AskOther};
+ghost use Rattle.refactor_app.specs.Words.{Files, Request, inputs, Asks, Uses, AskOther};
 ghost use Rattle.refactor_app.specs.Verdicts.{Refuses, Changes};
 ghost use Rattle.refactor_app.specs.Refusals.{most_files, AsksFew};
-ghost use Rattle.refactor_app.specs.Answers.{IsDone, IsRefused, IsUsage, IsMissing, IsReadFault, IsWriteFault};
-ghost use Rattle.refactor_app.specs.Outcomes.{Outcome, ComesTo, AreTreeless, Excludes};
+ghost use Rattle.refactor_app.specs.Answers.{IsDone, IsChangeDone, IsRefused, IsUsage, IsMissing, IsReadFault, IsWriteFault};
+ghost use Rattle.refactor_app.specs.Outcomes.{Outcome, ComesTo, AreTreeless, IsOfTypes, Excludes};
 
-/// Words are one request at most.
+/// Words are one request at most, on one list of files.
 pub fn one_request()
-    ensures { (words : List (List ℕ)) (a b : Request) → Asks words a → Asks words b → a ≡ b }
+    ensures change { (words : List (List ℕ)) (a b : Request) → Asks words a → Asks words b → a ≡ b }
+    ensures files { (words : List (List ℕ)) (a b : Files) → Uses words a → Uses words b → a ≡ b }
 {}
 
 /// One line refuses a request on a text: its rule and place are the first that stand against it.
@@ -31,23 +32,24 @@ pub fn refused_or_changed()
 {}
 
 /// Words, and any number of files whose contents are told, come to one outcome at most: the lowest rule on words, the first absent file, the line of
-/// a refusal, or a request with its change. Only the place of G1 is free: then both lines are G1's, of one file.
+/// a refusal, a request with its change, or the report of a check. The place of G1 is free: then both lines are G1's, of one file.
+/// And nothing is said here of two answers of a check whose files break no rule before those on types.
 pub fn one_outcome()
     ensures { (words : List (List ℕ)) (look : Look) (a b : Outcome) → ComesTo words (Some look) a → ComesTo words (Some look) b
-        → (a ≡ b) ⊎ AreTreeless words (Some look) a b }
+        → (a ≡ b) ⊎ AreTreeless words (Some look) a b ⊎ (IsOfTypes words (Some look) a × IsOfTypes words (Some look) b) }
 {}
 
-/// So the answers of the call exclude each other. A write fault stands where the change would: of both the change is one, by `one_outcome`.
+/// So the answers of the call exclude each other, but for a refusal and the report of a check. A write fault stands where the change would: of both the change is one, by `one_outcome`.
 pub fn answers_exclude()
     ensures usage { Excludes IsUsage IsDone × Excludes IsUsage IsRefused × Excludes IsUsage IsMissing × Excludes IsUsage IsReadFault × Excludes IsUsage IsWriteFault }
     ensures missing { Excludes IsMissing IsDone × Excludes IsMissing IsRefused × Excludes IsMissing IsWriteFault }
-    ensures refused { Excludes IsRefused IsDone × Excludes IsRefused IsWriteFault }
+    ensures refused { Excludes IsRefused IsChangeDone × Excludes IsRefused IsWriteFault }
 {}
 
 /// A read fault hangs on the run, too: any file that is there may fail to be read, where the files before it are read. So it excludes what the words
 /// and the count of files bring, a stop at a file before it, and that it is absent itself, and nothing else.
 pub fn read_faults()
-    ensures words { (words : List (List ℕ)) (q r : Request) → AsksFew words q → (AskOther words → ⊥) × (Asks words r → length (inputs r) ≤ most_files) }
+    ensures words { (words : List (List ℕ)) (fs gs : Files) → AsksFew words fs → (AskOther words → ⊥) × (Uses words gs → length (inputs gs) ≤ most_files) }
     ensures missing { (look : Look) (names : List (List ℕ)) (j k : ℕ) → StopsAt (Some look) 0 names j Missing → (StopsAt (Some look) 0 names k Failed ↔ k < j) }
     ensures large { (look : Look) (names : List (List ℕ)) (j k : ℕ) (stop : Stop) → stop ≢ Missing → stop ≢ Failed → StopsAt (Some look) 0 names j stop
         → (StopsAt (Some look) 0 names k Failed ↔ k ≤ j) }

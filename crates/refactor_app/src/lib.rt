@@ -2,11 +2,12 @@
 //!
 //! Of small programs alone, and to go once requests are answered on the whole language: `program` and `first_names`, and `decide` but for its types, with their
 //! proofs; of the specs Program, Small and Verdicts, and IsPlanned of Decided; of the proofs Smalls, Changing, Deciding, Declaring and OneVerdict.
-//! `call::on_declared` is where they begin.
+//! `call::on_change` is where they begin.
 #![tactic(auto)]
 
 mod asked;
 mod call;
+mod check;
 mod decide;
 mod declarations;
 mod first_names;

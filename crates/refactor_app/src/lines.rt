@@ -1,13 +1,13 @@
-//! The lines of refusals.
+//! The lines of refusals and of checks.
 
-ghost use Rattle.std.specs.Prelude.{◌≡◌, ◌<◌, ◌≤◌, ℕ, List, Some, length, map, slice_get, Err, IfOk, option_and_then};
+ghost use Rattle.std.specs.Prelude.{◌≡◌, ◌<◌, ◌≤◌, ℕ, List, Some, length, map, flat_map, slice_get, codes, Err, IfOk, option_and_then};
 ghost use Rattle.std.specs.String.{string_bytes};
 ghost use Rattle.java_tree.specs.View.{unit_plain};
 ghost use Rattle.node_places.specs.Places.{place_of};
-ghost use Rattle.report_text.specs.Report as report;
 ghost use Rattle.source_files.specs.Held.{AreSmall};
 ghost use Rattle.source_files.specs.Answers.{HasParsed};
-ghost use Rattle.refactor_app.specs.Words.{Request, inputs};
+ghost use Rattle.refactor_app.specs.Words.{Files, inputs};
+ghost use Rattle.refactor_app.specs.Checking as checking;
 ghost use Rattle.refactor_app.specs.Declarations as spec;
 ghost use Rattle.refactor_app.specs.Refusals.{IsAt};
 ghost use Rattle.refactor_app.specs.Stops.{TellsStop};
@@ -16,7 +16,7 @@ use edit_writer::place_at;
 use java_tree::tree::SourceUnit;
 use java_tree::{Broken, Family, Items, NoMemory};
 use node_places::{NodePlace, first_byte};
-use report_text::{refused_at, rule_name};
+use report_text::{checked_files, place_text, refused_at, refused_place, rule_name, unchecked_at};
 use source_files::TreeStop;
 use std::alloc::Global;
 
@@ -32,7 +32,7 @@ fn refused_in(
     requires name { file < length names.now }
     requires text { file < length texts.now }
     requires within { (x : List ℕ) → slice_get texts.now file ≡ Some x → (at ≤ length x) × (length x ≤ 1048576) }
-    ensures { (q : Request) → inputs q ≡ map string_bytes names.now → IfOk result (λ r. IsAt rule.now q texts.now file at (string_bytes r)) }
+    ensures { (fs : Files) → inputs fs ≡ map string_bytes names.now → IfOk result (λ r. IsAt rule.now fs texts.now file at (string_bytes r)) }
 {
     let place = place_at(texts[file].as_slice(), at as usize);
     refused_at(alloc, rule, names[file].as_str(), place)
@@ -48,7 +48,7 @@ pub fn stop_line(
     requires names { length names.now ≡ length texts.now }
     requires small { AreSmall texts.now }
     requires stopped { HasParsed texts.now (Err stop) }
-    ensures { (q : Request) → inputs q ≡ map string_bytes names.now → IfOk result (λ r. TellsStop q texts.now stop (string_bytes r)) }
+    ensures { (fs : Files) → inputs fs ≡ map string_bytes names.now → IfOk result (λ r. TellsStop fs texts.now stop (string_bytes r)) }
 {
     match stop {
         TreeStop::Lexical { rule, file, at } => {
@@ -84,43 +84,59 @@ fn letters(family: Family) -> &'static str
     }
 }
 
-// A refusal without a place.
-fn refused(alloc: Global, rule: &str) -> Result<String, NoMemory>
-    ensures { IfOk result (λ r. string_bytes r ≡ report.refused rule.now) }
+// No place.
+fn nowhere(alloc: Global) -> Result<String, NoMemory>
+    ensures { IfOk result (λ r. string_bytes r ≡ codes "-") }
 {
-    Ok(format!(in alloc; "refused {rule} -\n")?)
+    Ok(String::from_str(alloc, "-")?)
 }
 
-// The place of the node that a rule names, where it names one.
+// The place of a node, where there is one.
 fn node_place(units: &[SourceUnit], node: Option<u32>) -> Option<NodePlace>
     ensures { result ≡ option_and_then (place_of (map unit_plain units.now)) node }
 {
     first_byte(units, node?)
 }
 
-// A refusal at a place, which each node of the files has.
-fn refused_at_node(
+// FILE:LINE:COL of a place, which each node of the files has.
+fn place_name(
     alloc: Global,
-    rule: &str,
     names: &[String],
     texts: &[Items<u8>],
     place: NodePlace,
 ) -> Result<String, NoMemory>
     requires small { AreSmall texts.now }
-    ensures { (q : Request) → inputs q ≡ map string_bytes names.now → IfOk result (λ r. string_bytes r ≡ spec.line_at rule.now q texts.now (Some place)) }
+    ensures { (fs : Files) → inputs fs ≡ map string_bytes names.now → IfOk result (λ r. string_bytes r ≡ spec.place_name fs texts.now (Some place)) }
 {
     let Some(name) = names.get(place.file) else {
-        return refused(alloc, rule);
+        return nowhere(alloc);
     };
     let Some(text) = texts.get(place.file) else {
-        return refused(alloc, rule);
+        return nowhere(alloc);
     };
     let text = text.as_slice();
     let at = place_at(text, text.len().min(place.at as usize));
-    refused_at(alloc, rule, name.as_str(), at)
+    place_text(alloc, name.as_str(), at)
 }
 
-/// The refusal of a rule that the declarations of these files break.
+// The PLACE of a node.
+fn node_name(
+    alloc: Global,
+    names: &[String],
+    texts: &[Items<u8>],
+    units: &[SourceUnit],
+    node: Option<u32>,
+) -> Result<String, NoMemory>
+    requires small { AreSmall texts.now }
+    ensures { (fs : Files) → inputs fs ≡ map string_bytes names.now → IfOk result (λ r. string_bytes r ≡ spec.node_name fs texts.now (map unit_plain units.now) node) }
+{
+    match node_place(units, node) {
+        Some(place) => place_name(alloc, names, texts, place),
+        None => nowhere(alloc),
+    }
+}
+
+/// The refusal of a rule that these files break.
 pub fn broken_line(
     alloc: Global,
     names: &[String],
@@ -129,11 +145,61 @@ pub fn broken_line(
     broken: Broken,
 ) -> Result<String, NoMemory>
     requires small { AreSmall texts.now }
-    ensures { (q : Request) → inputs q ≡ map string_bytes names.now → IfOk result (λ r. string_bytes r ≡ spec.broken_line q texts.now (map unit_plain units.now) broken) }
+    ensures { (fs : Files) → inputs fs ≡ map string_bytes names.now → IfOk result (λ r. string_bytes r ≡ spec.broken_line fs texts.now (map unit_plain units.now) broken) }
 {
     let rule = rule_name(alloc, letters(broken.family), broken.number)?;
-    match node_place(units, broken.node) {
-        Some(place) => refused_at_node(alloc, rule.as_str(), names, texts, place),
-        None => refused(alloc, rule.as_str()),
+    let place = node_name(alloc, names, texts, units, broken.node)?;
+    refused_place(alloc, rule.as_str(), place.as_str())
+}
+
+// The line of an unchecked operation.
+fn unchecked_line(
+    alloc: Global,
+    names: &[String],
+    texts: &[Items<u8>],
+    units: &[SourceUnit],
+    node: u32,
+) -> Result<String, NoMemory>
+    requires small { AreSmall texts.now }
+    ensures { (fs : Files) → inputs fs ≡ map string_bytes names.now → IfOk result (λ r. string_bytes r ≡ checking.unchecked_line fs texts.now (map unit_plain units.now) node) }
+{
+    let place = node_name(alloc, names, texts, units, Some(node))?;
+    unchecked_at(alloc, place.as_str())
+}
+
+// The lines of unchecked operations.
+fn unchecked_lines(
+    alloc: Global,
+    names: &[String],
+    texts: &[Items<u8>],
+    units: &[SourceUnit],
+    nodes: &[u32],
+) -> Result<String, NoMemory>
+    requires small { AreSmall texts.now }
+    ensures { (fs : Files) → inputs fs ≡ map string_bytes names.now
+        → IfOk result (λ r. string_bytes r ≡ flat_map (checking.unchecked_line fs texts.now (map unit_plain units.now)) nodes.now) }
+{
+    let mut lines = String::new(alloc);
+    for node in nodes {
+        let line = unchecked_line(alloc, names, texts, units, *node)?;
+        lines.push_str(line.as_str())?;
     }
+    Ok(lines)
+}
+
+/// The report of a check of these files that break no rule.
+pub fn check_report(
+    alloc: Global,
+    names: &[String],
+    texts: &[Items<u8>],
+    units: &[SourceUnit],
+    nodes: &[u32],
+) -> Result<String, NoMemory>
+    requires small { AreSmall texts.now }
+    ensures { (fs : Files) → inputs fs ≡ map string_bytes names.now → IfOk result (λ r. string_bytes r ≡ checking.check_report fs texts.now (map unit_plain units.now) nodes.now) }
+{
+    let mut report = unchecked_lines(alloc, names, texts, units, nodes)?;
+    let last = checked_files(alloc, names.len())?;
+    report.push_str(last.as_str())?;
+    Ok(report)
 }

@@ -31,8 +31,20 @@ edit_report file e =
 abbrev pub refused : List ℕ → List ℕ
 refused rule = line_of (codes "refused" ∷ rule ∷ codes "-" ∷ [])
 
+-- a refusal at a PLACE
+abbrev pub refused_place : List ℕ → List ℕ → List ℕ
+refused_place rule place = line_of (codes "refused" ∷ rule ∷ place ∷ [])
+
 abbrev pub refused_at : List ℕ → List ℕ → Place → List ℕ
-refused_at rule file at = line_of (codes "refused" ∷ rule ∷ place_text file at ∷ [])
+refused_at rule file at = refused_place rule (place_text file at)
+
+-- an unchecked operation at a PLACE
+abbrev pub unchecked_at : List ℕ → List ℕ
+unchecked_at place = line_of (codes "unchecked" ∷ place ∷ [])
+
+-- the last line of a check of so many files
+abbrev pub checked_files : ℕ → List ℕ
+checked_files files = line_of (codes "checked" ∷ decimal files ∷ codes "files" ∷ [])
 
 -- the lowest rule that the words break
 abbrev pub usage : ℕ → List ℕ

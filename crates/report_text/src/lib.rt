@@ -3,4 +3,7 @@
 
 mod report;
 
-pub use report::{edit_report, missing, read_fault, refused_at, rule_name, usage, write_fault};
+pub use report::{
+    checked_files, edit_report, missing, place_text, read_fault, refused_at, refused_place,
+    rule_name, unchecked_at, usage, write_fault,
+};

@@ -35,11 +35,40 @@ pub fn edit_report(alloc: Global, file: &str, edit: &Edit, text: &str) -> Result
     Ok(report)
 }
 
+/// `FILE:LINE:COL`
+pub fn place_text(alloc: Global, file: &str, place: Place) -> Result<String, NoMemory>
+    ensures { IfOk result (λ r. string_bytes r ≡ spec.place_text file.now place) }
+{
+    Ok(format!(in alloc; "{file}:{}:{}", place.line, place.col)?)
+}
+
+/// `refused RULE PLACE`
+pub fn refused_place(alloc: Global, rule: &str, place: &str) -> Result<String, NoMemory>
+    ensures { IfOk result (λ r. string_bytes r ≡ spec.refused_place rule.now place.now) }
+{
+    Ok(format!(in alloc; "refused {rule} {place}\n")?)
+}
+
+/// `unchecked PLACE`
+pub fn unchecked_at(alloc: Global, place: &str) -> Result<String, NoMemory>
+    ensures { IfOk result (λ r. string_bytes r ≡ spec.unchecked_at place.now) }
+{
+    Ok(format!(in alloc; "unchecked {place}\n")?)
+}
+
+/// `checked K files`
+pub fn checked_files(alloc: Global, files: usize) -> Result<String, NoMemory>
+    ensures { IfOk result (λ r. string_bytes r ≡ spec.checked_files files) }
+{
+    Ok(format!(in alloc; "checked {files} files\n")?)
+}
+
 /// `refused RULE FILE:LINE:COL`
 pub fn refused_at(alloc: Global, rule: &str, file: &str, place: Place) -> Result<String, NoMemory>
     ensures { IfOk result (λ r. string_bytes r ≡ spec.refused_at rule.now file.now place) }
 {
-    Ok(format!(in alloc; "refused {rule} {file}:{}:{}\n", place.line, place.col)?)
+    let place = place_text(alloc, file, place)?;
+    refused_place(alloc, rule, place.as_str())
 }
 
 /// `missing NAME`

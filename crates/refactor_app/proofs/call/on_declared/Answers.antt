@@ -1,32 +1,62 @@
-use Rattle.std.proofs.Common.{ℕ, List, take, refl, sym, ◌∙◌, subst, arith}
+use Rattle.std.proofs.Common.{ℕ, List, length, map, take, refl, sym, ap, subst, arith}
 use Rattle.java_tree.specs.View.{unit_plain}
-use Rattle.refactor_app.specs.Asked.{request_of}
-use Rattle.refactor_app.specs.Small.{HasUnit}
-use Rattle.refactor_app.specs.Course as way
-use Rattle.refactor_app.specs.Refusals as refusal
-use Rattle.refactor_app.proofs.Courses.{one_file, one_small, on_one, not_alone}
+use Rattle.java_tree.specs.declared.tree.SourceUnit.{SourceUnit}
+use Rattle.refactor_app.specs.declared.status.Status.TheVariants as s
+use Rattle.refactor_app.specs.declared.check.CheckAnswer.TheVariants as answer
+use Rattle.refactor_app.specs.Answers.{Ends}
+use Rattle.refactor_app.specs.Asked.{task_files}
+use Rattle.refactor_app.specs.Checked.{Answers}
+use Rattle.refactor_app.proofs.Checking.{of_files, check_users, check_asked}
+use Rattle.refactor_app.proofs.Courses.{held_small, map_length, users_within, on_check}
 use Rattle.refactor_app.proofs.call.on_declared.Goals as goal
 
-pub answer-requires-clause-size : goal.answer-requires-clause-size
-answer-requires-clause-size g c =
-    let file = (one_file unit_plain _ (request_of c.args.q.now) c.args.texts.now c.as_slice.result.now (take c.args.count c.args.table.now) c.args.units c.pop.new.self.items c.in-Some.unit
-    c.requires.held c.requires.trees c.requires.declared (omega arith) (rw c.as_slice.ensures c.index-texts-0.is) (sym c.into_vec.ensures ∙ c.in-Some.ensures.items)) in
-    one_small _ 0 _ c.as_slice.result.now file.held
+pub check-requires-clause-small : goal.check-requires-clause-small
+check-requires-clause-small g c = held_small _ 0 _ c.args.texts.now c.requires.held
 
-pub answer-requires-clause-unit : goal.answer-requires-clause-unit
-answer-requires-clause-unit g c =
-    let file = (one_file unit_plain _ (request_of c.args.q.now) c.args.texts.now c.as_slice.result.now (take c.args.count c.args.table.now) c.args.units c.pop.new.self.items c.in-Some.unit
-    c.requires.held c.requires.trees c.requires.declared (omega arith) (rw c.as_slice.ensures c.index-texts-0.is) (sym c.into_vec.ensures ∙ c.in-Some.ensures.items)) in
-    subst (λ (ns : List (List ℕ)). HasUnit c.as_slice.result.now ns c.in-Some.unit) (sym c.in-Ok.ensures) file.trees
+pub check-requires-clause-users : goal.check-requires-clause-users
+check-requires-clause-users g c =
+    let within = users_within _ (task_files c.args.task.now) c.args.texts.now (map unit_plain c.args.units) (take c.args.count c.args.table.now) c.requires.held c.requires.trees in
+    let many = map_length unit_plain c.args.units in
+    let users = check_users c.args.task.now c.in-Check.inputs c.in-Check.is in
+    let slice = ap length c.as_slice-units.ensures in
+    omega (arith, within, many, users, slice)
 
-pub returns-in-Some : goal.returns-in-Some
-returns-in-Some g c words asks =
-    let file = (one_file unit_plain _ (request_of c.args.q.now) c.args.texts.now c.as_slice.result.now (take c.args.count c.args.table.now) c.args.units c.pop.new.self.items c.in-Some.unit
-    c.requires.held c.requires.trees c.requires.declared (omega arith) (rw c.as_slice.ensures c.index-texts-0.is) (sym c.into_vec.ensures ∙ c.in-Some.ensures.items)) in
-    on_one words (request_of c.args.q.now) c.as_slice.result.now (take c.args.count c.args.table.now) (unit_plain c.in-Some.unit) _ _ _ asks file c.answer.ensures
+pub check-requires-clause-program : goal.check-requires-clause-program
+check-requires-clause-program g c =
+    let d = c.requires.declared in
+    let names = take c.args.count c.args.table.now in
+    let users = check_users c.args.task.now c.in-Check.inputs c.in-Check.is in
+    (d.declared.program, of_files _ _ names c.args.table.now c.args.units c.as_slice-units.result.now d.declared.program users c.requires.words c.as_slice-units.ensures d.declared.files)
 
-pub returns-then-texts-ne1 : goal.returns-then-texts-ne1
-returns-then-texts-ne1 g c words asks =
-    let none = not_alone (request_of c.args.q.now) c.args.texts.now _ c.requires.held (λ one. absurd (omega (arith, one))) in
-    way.Course.refuses (refusal.Refusal.n2 (request_of c.args.q.now) c.args.texts.now (take c.args.count c.args.table.now) _
-    (record { parsed = record { read = record { asks = asks; held = c.requires.held }; trees = c.requires.trees }; declared = c.requires.declared }) none) refl c.put.ensures
+pub returns-in-Change : goal.returns-in-Change
+returns-in-Change g c words asks few = c.on_change.ensures words (rw c.in-Change.is at asks) (rw c.in-Change.is at few)
+
+pub returns-in-Ok-Refused : goal.returns-in-Ok-Refused
+returns-in-Ok-Refused g c words asks few =
+    let fs = task_files c.args.task.now in
+    let d = c.requires.declared in
+    let names = take c.args.count c.args.table.now in
+    let users = check_users c.args.task.now c.in-Check.inputs c.in-Check.is in
+    let files = of_files _ _ names c.args.table.now c.args.units c.as_slice-units.result.now d.declared.program users c.requires.words c.as_slice-units.ensures d.declared.files in
+    let said = rw c.in-Ok-Refused.field-0-is at (c.in-Ok-Refused.ensures d.declared.program fs files (sym c.requires.names)) in
+    let told = subst (λ (us : List SourceUnit). Answers fs c.args.texts.now (map unit_plain us) d.declared.program c.args.declared.now.world (answer.Refused c.in-Ok-Refused.line)) c.as_slice-units.ensures said in
+    let ends = subst (λ (x : List ℕ). Ends (g.K.Sink.written c.args.out.now) (g.K.Sink.written c.put.new.out) (g.K.Sink.faults c.args.out.now) (g.K.Sink.faults c.put.new.out) x s.Refused c.put.result)
+    c.as_bytes.ensures.value c.put.ensures in
+    on_check words fs c.args.texts.now names (map unit_plain c.args.units) _ _ _ d.declared.program c.args.declared.now.world (answer.Refused c.in-Ok-Refused.line)
+    (check_asked c.args.task.now c.in-Check.inputs c.in-Check.is words asks)
+    (record { parsed = record { read = record { asks = few; held = c.requires.held }; trees = c.requires.trees }; declared = d.declared }) refl d.world told refl ends
+
+pub returns-in-Ok-Passed : goal.returns-in-Ok-Passed
+returns-in-Ok-Passed g c words asks few =
+    let fs = task_files c.args.task.now in
+    let d = c.requires.declared in
+    let names = take c.args.count c.args.table.now in
+    let users = check_users c.args.task.now c.in-Check.inputs c.in-Check.is in
+    let files = of_files _ _ names c.args.table.now c.args.units c.as_slice-units.result.now d.declared.program users c.requires.words c.as_slice-units.ensures d.declared.files in
+    let said = rw c.in-Ok-Passed.field-0-is at (c.in-Ok-Passed.ensures d.declared.program fs files (sym c.requires.names)) in
+    let told = subst (λ (us : List SourceUnit). Answers fs c.args.texts.now (map unit_plain us) d.declared.program c.args.declared.now.world (answer.Passed c.in-Ok-Passed.report)) c.as_slice-units.ensures said in
+    let ends = subst (λ (x : List ℕ). Ends (g.K.Sink.written c.args.out.now) (g.K.Sink.written c.put-in-Ok-Passed.new.out) (g.K.Sink.faults c.args.out.now) (g.K.Sink.faults c.put-in-Ok-Passed.new.out) x s.Done c.put-in-Ok-Passed.result)
+    c.as_bytes-in-Ok-Passed.ensures.value c.put-in-Ok-Passed.ensures in
+    on_check words fs c.args.texts.now names (map unit_plain c.args.units) _ _ _ d.declared.program c.args.declared.now.world (answer.Passed c.in-Ok-Passed.report)
+    (check_asked c.args.task.now c.in-Check.inputs c.in-Check.is words asks)
+    (record { parsed = record { read = record { asks = few; held = c.requires.held }; trees = c.requires.trees }; declared = d.declared }) refl d.world told refl ends

@@ -1,6 +1,6 @@
 use Rattle.std.proofs.Common.{length, inl, inr, refl, sym, ◌∙◌, ap, arith}
 use Rattle.std.specs.String.{string_bytes}
-use Rattle.refactor_app.specs.Asked.{request_of}
+use Rattle.refactor_app.specs.Asked.{task_files}
 use Rattle.refactor_app.specs.Stops.{TellsStop}
 use Rattle.refactor_app.specs.Course as way
 use Rattle.refactor_app.proofs.Courses.{held_long, held_small, map_length, made_so, broken}
@@ -22,9 +22,9 @@ pub stop_line-requires-clause-small : goal.stop_line-requires-clause-small
 stop_line-requires-clause-small g c = held_small _ 0 _ c.args.texts.now c.requires.held
 
 pub returns-in-Err : goal.returns-in-Err
-returns-in-Err g c words asks =
-    let q = request_of c.args.q.now in
-    elim (made_so c.stop_line.result _ _ _ _ _ _ (TellsStop q c.args.texts.now c.in-Err.stop) (c.stop_line.ensures q (sym c.requires.names)) c.put_made.ensures.put c.put_made.ensures.none) [
-      | inl h ↦ way.Course.refuses (broken words _ q c.args.texts.now c.in-Err.stop h.0 (record { asks = asks; held = c.requires.held }) c.in-Err.ensures h.1) refl h.2
+returns-in-Err g c words asks few =
+    let fs = task_files c.args.task.now in
+    elim (made_so c.stop_line.result _ _ _ _ _ _ (TellsStop fs c.args.texts.now c.in-Err.stop) (c.stop_line.ensures fs (sym c.requires.names)) c.put_made.ensures.put c.put_made.ensures.none) [
+      | inl h ↦ way.Course.refuses (broken words _ fs c.args.texts.now c.in-Err.stop h.0 (record { asks = few; held = c.requires.held }) c.in-Err.ensures h.1) refl h.2
       | inr none ↦ way.Course.no_memory refl none.1 none.0
     ]

@@ -1,15 +1,14 @@
 use Rattle.std.proofs.Common.{inl, inr, map, refl}
 use Rattle.std.specs.String.{string_bytes}
-use Rattle.refactor_app.specs.Asked.{request_of}
 use Rattle.refactor_app.specs.Course as way
 use Rattle.refactor_app.specs.Refusals as refusal
-use Rattle.refactor_app.proofs.Courses.{made, asks_other, identifier_of}
+use Rattle.refactor_app.proofs.Courses.{made, asks_other, type_of}
 use Rattle.refactor_app.proofs.call.run.Goals as goal
 
-pub change-requires : goal.change-requires
-change-requires g c =
+pub on_task-requires : goal.on_task-requires
+on_task-requires g c =
     let asks = rw c.in-Ok-Asked.field-0-is at c.in-Ok-Asked.ensures in
-    identifier_of (map string_bytes c.args.words.now) (request_of c.in-Some.q) (c.in-Some.ensures.some (map string_bytes c.args.words.now) asks)
+    type_of (map string_bytes c.args.words.now) c.in-Some.task (c.in-Some.ensures.some (map string_bytes c.args.words.now) asks)
 
 pub returns-in-Ok-Usage : goal.returns-in-Ok-Usage
 returns-in-Ok-Usage g c =
@@ -21,9 +20,9 @@ returns-in-Ok-Usage g c =
 pub returns-in-Some : goal.returns-in-Some
 returns-in-Some g c =
     let asks = rw c.in-Ok-Asked.field-0-is at c.in-Ok-Asked.ensures in
-    c.change.ensures (map string_bytes c.args.words.now) (c.in-Some.ensures.some (map string_bytes c.args.words.now) asks)
+    c.on_task.ensures (map string_bytes c.args.words.now) (c.in-Some.ensures.some (map string_bytes c.args.words.now) asks)
 
 pub returns-in-None : goal.returns-in-None
 returns-in-None g c =
     let asks = rw c.in-Ok-Asked.field-0-is at c.in-Ok-Asked.ensures in
-    way.Course.refuses (refusal.Refusal.n1 (asks_other (map string_bytes c.args.words.now) c.in-Ok-Asked.request asks c.in-None.ensures.none)) refl c.put.ensures
+    way.Course.refuses (refusal.Refusal.n1 (asks_other (map string_bytes c.args.words.now) c.in-Ok-Asked.request asks c.in-None.ensures.no_change c.in-None.ensures.no_check)) refl c.put.ensures

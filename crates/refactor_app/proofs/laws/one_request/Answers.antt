@@ -1,5 +1,8 @@
-use Rattle.refactor_app.proofs.Asking.{one_request}
+use Rattle.refactor_app.proofs.Asking.{one_request, one_files}
 use Rattle.refactor_app.proofs.laws.one_request.Goals as goal
 
-pub returns : goal.returns
-returns c words a b x y = one_request words a b x y
+pub returns-clause-change : goal.returns-clause-change
+returns-clause-change c words a b x y = one_request words a b x y
+
+pub returns-clause-files : goal.returns-clause-files
+returns-clause-files c words a b x y = one_files words a b x y

@@ -3,11 +3,11 @@ use Rattle.std.specs.String.{string_bytes}
 use Rattle.std.proofs.lemmas.Option.{slice_get_read}
 use Rattle.edit_writer.specs.declared.places.Place.{Place}
 use Rattle.edit_writer.specs.Places.{place_at}
-use Rattle.report_text.specs.Report as report
-use Rattle.refactor_app.specs.Declarations.{line_at}
+use Rattle.report_text.specs.Report.{place_text}
+use Rattle.refactor_app.specs.Declarations.{place_name}
 use Rattle.refactor_app.proofs.Faults.{small_at}
 use Rattle.refactor_app.proofs.Places.{place_min, there}
-use Rattle.refactor_app.proofs.lines.refused_at_node.Goals as goal
+use Rattle.refactor_app.proofs.lines.place_name.Goals as goal
 
 pub place_at-at-requires-clause-size : goal.place_at-at-requires-clause-size
 place_at-at-requires-clause-size c =
@@ -18,7 +18,7 @@ place_at-at-requires-clause-size c =
     omega (arith, small, same)
 
 pub returns : goal.returns
-returns c q are =
+returns c fs are =
     let name = c.in-Some.ensures.lookup in
     let name_at = slice_get_read c.args.names.now _ c.args.place.file c.in-Some.name.now refl name.3.0 name.1 in
     let at = c.in-Some-get.ensures.lookup in
@@ -26,8 +26,8 @@ returns c q are =
     let bytes = c.as_slice-text.result.now in
     let place : c.place_at-at.result ≡ place_at c.in-Some-get.text.now c.args.place.at =
     c.place_at-at.ensures ∙ ap (λ (k : ℕ). place_at bytes k) c.min.ensures ∙ place_min bytes c.args.place.at ∙ ap (λ (x : List ℕ). place_at x c.args.place.at) c.as_slice-text.ensures in
-    let line : report.refused_at c.args.rule.now c.as_str.result.now c.place_at-at.result ≡ line_at c.args.rule.now q c.args.texts.now (Some c.args.place) =
-    ap (λ (n : List ℕ). report.refused_at c.args.rule.now n c.place_at-at.result) c.as_str.ensures.value
-    ∙ ap (λ (p : Place). report.refused_at c.args.rule.now (string_bytes c.in-Some.name.now) p) place
-    ∙ there c.args.rule.now q c.args.texts.now c.args.names.now are c.args.place c.in-Some.name.now c.in-Some-get.text.now (sym name_at) (sym text_at) in
-    subst (λ (l : List ℕ). IfOk c.refused_at.result (λ r. string_bytes r ≡ l)) line c.refused_at.ensures
+    let line : place_text c.as_str.result.now c.place_at-at.result ≡ place_name fs c.args.texts.now (Some c.args.place) =
+    ap (λ (n : List ℕ). place_text n c.place_at-at.result) c.as_str.ensures.value
+    ∙ ap (λ (p : Place). place_text (string_bytes c.in-Some.name.now) p) place
+    ∙ there fs c.args.texts.now c.args.names.now are c.args.place c.in-Some.name.now c.in-Some-get.text.now (sym name_at) (sym text_at) in
+    subst (λ (l : List ℕ). IfOk c.place_text.result (λ r. string_bytes r ≡ l)) line c.place_text.ensures

@@ -1,0 +1,5 @@
+package l;
+public interface Bag<T> {
+  T any(T other);
+  boolean isEmpty();
+}

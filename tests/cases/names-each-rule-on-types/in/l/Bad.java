@@ -1,0 +1,6 @@
+package l;
+class Bad {
+  int m() {
+    return hidden;
+  }
+}

@@ -1,0 +1,4 @@
+package l;
+public class Duo<K, V> extends Box<V> {
+  public K key;
+}

@@ -1,0 +1,4 @@
+package l;
+class Hidden {
+  public static int f;
+}

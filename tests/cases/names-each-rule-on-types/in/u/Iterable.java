@@ -1,0 +1,1 @@
+package java.lang; import java.util.Iterator; public interface Iterable<T> { Iterator<T> iterator(); }

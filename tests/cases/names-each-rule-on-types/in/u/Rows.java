@@ -1,0 +1,1 @@
+package u; public abstract class Rows implements Iterable<String> { }
