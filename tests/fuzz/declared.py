@@ -3,6 +3,7 @@
 The reader is that of trees.py; it keeps what the rules on declarations ask for, and nothing of statements and values but
 the types that are written there. All places are offsets of first bytes.
 """
+import functools
 from dataclasses import dataclass, field
 from typing import Optional
 
@@ -109,8 +110,9 @@ class File:
     written: list = field(default_factory=list)
 
 
+@functools.lru_cache(maxsize=32)
 def read_file(text, number, is_user):
-    """The declarations of a text that has a tree."""
+    """The declarations of a text that has a tree; nobody changes them."""
     tokens = lexing.read_tokens(text)
     file = File(number, is_user, tokens[0].at if tokens else 0)
     Reader(tokens, file).unit()

@@ -65,7 +65,10 @@ def first_broken(texts, users):
 
     It is (rule, number of the file, offset); the last two are None where the rule has no place.
     """
-    program = Program(texts, users)
+    return first_broken_of(Program(texts, users))
+
+
+def first_broken_of(program):
     for group in (profile_rules, size_rules, declaration_rules, member_rules):
         least = min(group(program), default=None)
         if least is not None:

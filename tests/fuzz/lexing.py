@@ -1,4 +1,5 @@
 """The tokens of a file, and the rules X1 to X6 and S1 to S9."""
+import functools
 import re
 from typing import NamedTuple
 
@@ -55,8 +56,9 @@ def require_text(data):
         raise Broken("X6", min(found))
 
 
+@functools.lru_cache(maxsize=32)
 def read_tokens(data):
-    """The tokens of a text; Broken with the X rule that it breaks first."""
+    """The tokens of a text, a list that nobody changes; Broken with the X rule that it breaks first."""
     require_text(data)
     tokens = []
     at = 0

@@ -55,11 +55,16 @@ class Reader:
 
     def sees(self, *sorts):
         """Whether the next tokens are of these sorts."""
-        return all(self.sorts[self.next + n] == sort for n, sort in enumerate(sorts))
+        at = self.next
+        for sort in sorts:
+            if self.sorts[at] != sort:
+                return False
+            at += 1
+        return True
 
     def take(self, *sorts):
         for sort in sorts:
-            if not self.sees(sort):
+            if self.sorts[self.next] != sort:
                 raise NoTree("token %d is %s where %s has to stand" % (self.next, self.sorts[self.next], sort))
             self.next += 1
 

@@ -1,3 +1,4 @@
 pub mod Casts
 pub mod Kinds
+pub mod Members
 pub mod OfWorld

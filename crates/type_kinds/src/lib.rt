@@ -4,4 +4,5 @@
 pub mod casts;
 pub mod conversions;
 pub mod kinds;
+pub mod members;
 pub mod of_world;

@@ -1,0 +1,13 @@
+pub mod State
+pub mod Numbers
+pub mod Texts
+pub mod BuiltIns
+pub mod Outcome
+pub mod Code
+pub mod Classes
+pub mod Variables
+pub mod Members
+pub mod Expressions
+pub mod Statements
+pub mod Calls
+pub mod Runs

@@ -1,0 +1,6 @@
+//! What a checked program prints and how it ends within a number of steps (JLS 3rd edition, chapters 8, 12, 14 and 15): definitions alone.
+#![tactic(auto)]
+
+pub mod values;
+
+pub use values::{End, Ending, Progress, Value};

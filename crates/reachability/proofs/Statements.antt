@@ -1,0 +1,34 @@
+-- Lists of groups and of catches, by their first item.
+use Rattle.std.proofs.Common.{◌≡◌, ◌+◌, Bool, List, ◌∷◌, map, ap}
+use Rattle.java_tree.specs.declared.tree.Node.{Node}
+use Rattle.java_core.specs.declared.stmt.CoreGroup.{CoreGroup, out-CoreGroup}
+use Rattle.java_core.specs.declared.stmt.CoreCatch.{CoreCatch, out-CoreCatch}
+use Rattle.java_core.specs.declared.stmt.CoreStmtForm.TheFolds.{fold_out-CoreGroup, fold_out-CoreCatch}
+use Rattle.java_core.specs.Plain as p
+use Rattle.java_core.specs.View.{catch_node, catch_plain, catch_row, group_node, group_plain, group_row, param_plain, stmt_form, stmt_node, stmt_plain, stmts_plain}
+use Rattle.reachability.specs.declared.ways.Ways.{Ways}
+use Rattle.reachability.specs.Reached as spec
+use Rattle.reachability.proofs.Heights.{catches_height, groups_height, stmt_height, stmts_height}
+
+pub group_at : (x : CoreGroup) → group_plain x ≡ p.Labelled (out-CoreGroup x).node (out-CoreGroup x).labels (stmts_plain (out-CoreGroup x).body)
+group_at x = fold_out-CoreGroup (Node → p.Stmt) p.Catch p.Group p.Stmt stmt_form catch_node group_node stmt_node x
+
+pub catch_at : (x : CoreCatch) → catch_plain x ≡ p.Caught (out-CoreCatch x).node (param_plain (out-CoreCatch x).param) (stmt_plain (out-CoreCatch x).body)
+catch_at x = fold_out-CoreCatch (Node → p.Stmt) p.Catch p.Group p.Stmt stmt_form catch_node group_node stmt_node x
+
+pub group_sum : (x : CoreGroup) (xs : List CoreGroup)
+    → groups_height (group_row (map group_plain (x ∷ xs))) ≡ stmts_height (stmts_plain (out-CoreGroup x).body) + groups_height (group_row (map group_plain xs)) + 1
+group_sum x xs = ap (λ y. groups_height (p.AndGroup y (group_row (map group_plain xs)))) (group_at x)
+
+pub catch_sum : (x : CoreCatch) (xs : List CoreCatch)
+    → catches_height (catch_row (map catch_plain (x ∷ xs))) ≡ stmt_height (stmt_plain (out-CoreCatch x).body) + catches_height (catch_row (map catch_plain xs)) + 1
+catch_sum x xs = ap (λ y. catches_height (p.AndCatch y (catch_row (map catch_plain xs)))) (catch_at x)
+
+pub group_first : (alive : Bool) (x : CoreGroup) (xs : List CoreGroup) (w : Ways)
+    → spec.groups alive (group_row (map group_plain (x ∷ xs))) w ≡ spec.groups alive (group_row (map group_plain xs)) (spec.walks (stmts_plain (out-CoreGroup x).body) (spec.at alive w))
+group_first alive x xs w = ap (λ y. spec.groups alive (p.AndGroup y (group_row (map group_plain xs))) w) (group_at x)
+
+pub catch_first : (alive : Bool) (x : CoreCatch) (xs : List CoreCatch) (w : Ways)
+    → spec.catches alive (catch_row (map catch_plain (x ∷ xs))) w
+    ≡ spec.catches alive (catch_row (map catch_plain xs)) (spec.or_alive w.alive (spec.walk (stmt_plain (out-CoreCatch x).body) (spec.at alive w)))
+catch_first alive x xs w = ap (λ y. spec.catches alive (p.AndCatch y (catch_row (map catch_plain xs))) w) (catch_at x)

@@ -1,0 +1,5 @@
+pub mod Tests
+pub mod Heights
+pub mod Steps
+pub mod Forms
+pub mod Statements
