@@ -1,5 +1,5 @@
 -- What the check of a program's files says of the program.
-use Rattle.std.proofs.Common.{◌≡◌, ◌<◌, ℕ, Bool, List, Err, ◌++◌, length, map, ap, sym, subst, ◌∙◌}
+use Rattle.std.proofs.Common.{◌≡◌, ◌<◌, ℕ, Bool, List, Result, Ok, Err, ◌++◌, length, map, ap, sym, subst, ◌∙◌}
 use Rattle.std.proofs.lemmas.List.{length-map}
 use Rattle.java_tree.specs.declared.tree.SourceUnit.{SourceUnit}
 use Rattle.java_tree.specs.View.{unit_plain}
@@ -19,9 +19,12 @@ use Rattle.decl_table.specs.Program.{Program, java}
 use Rattle.type_facts.specs.declared.questions.Questions.{Questions}
 use Rattle.type_facts.specs.Facts.{Facts}
 use Rattle.check_program.specs.Typing.{program}
-use Rattle.unchecked_ops.specs.Casting.{AreCasts}
-use Rattle.unchecked_ops.specs.Programs.{AreFileFacts, program_ops}
-use Rattle.checker.specs.Checking.{IsChecked, IsCheckedBy, IsWellTyped}
+use Rattle.unchecked_ops.specs.Programs.{AreFileFacts}
+use Rattle.unchecked_ops.specs.declared.program.Operation.{Operation}
+use Rattle.checker.specs.declared.fault.CheckFault.{CheckFault}
+use Rattle.checker.specs.declared.fault.CheckFault.TheVariants as fault
+use Rattle.checker.specs.Checking.{AreAllFacts, IsChecked, IsCheckedBy, type_fault}
+use Rattle.checker.specs.Flows.{IsJudged}
 use Rattle.checker.proofs.Counts.{as_many_files}
 use Rattle.checker.proofs.Facts.{are_asked, are_files}
 
@@ -30,19 +33,28 @@ module _ (p : Program) (q : Questions) (names : List (List ℕ)) (us ls : List S
   pub checked : (c : Checked core.Program) → ((fs : ℕ → Facts) → AreFileFacts q (length (us ++ ls)) fs → program fs (map unit_plain (us ++ ls)) ≡ c) → IsChecked p q.world.now c
   checked c are fs all = sym (are fs (are_asked p q names us ls is stands named fs all)) ∙ ap (λ l. program fs l) (sym (are_files p q names us ls is))
 
-  pub stopped : (e : Stop) → ((fs : ℕ → Facts) → AreFileFacts q (length (us ++ ls)) fs → Stops e (program fs (map unit_plain (us ++ ls)))) → IsCheckedBy p q.world.now (Err e)
+  pub stopped : (e : Stop) → ((fs : ℕ → Facts) → AreFileFacts q (length (us ++ ls)) fs → Stops e (program fs (map unit_plain (us ++ ls)))) → IsCheckedBy p q.world.now (Err (type_fault e))
   stopped (stop.Broken n r) are = checked (Broken n r) are
   stopped stop.NoMemory are = tt
 
-  pub well_typed : (x : CoreProgram) (nodes : List ℕ) → ((fs : ℕ → Facts) → AreFileFacts q (length (us ++ ls)) fs → program fs (map unit_plain (us ++ ls)) ≡ Fine (program_plain x))
-      → ((fs : ℕ → Facts) → AreFileFacts q (length x.files) fs → (casts : JavaType → JavaType → Bool) → AreCasts q.world.now casts → nodes ≡ program_ops fs casts (program_plain x))
-      → IsWellTyped p q.world.now nodes
-  well_typed x nodes fine operations = record {
+  -- the facts of the files that were checked are those of the files of the core
+  of_files : (x : CoreProgram) → ((fs : ℕ → Facts) → AreFileFacts q (length (us ++ ls)) fs → program fs (map unit_plain (us ++ ls)) ≡ Fine (program_plain x))
+      → (fs : ℕ → Facts) → AreAllFacts p q.world.now fs → AreFileFacts q (length (map file_plain x.files)) fs
+  of_files x fine fs all k within =
+      let asked = are_asked p q names us ls is stands named fs all in
+      let counted : length (map file_plain x.files) ≡ length (map unit_plain (us ++ ls)) = as_many_files fs (map unit_plain (us ++ ls)) (program_plain x) (fine fs asked) in
+      let many : length (map file_plain x.files) ≡ length (us ++ ls) = counted ∙ length-map (us ++ ls) unit_plain in
+      asked k (subst (λ n. k < n) many within)
+
+  pub judged : (x : CoreProgram) (r : Result (List Operation) CheckFault)
+      → ((fs : ℕ → Facts) → AreFileFacts q (length (us ++ ls)) fs → program fs (map unit_plain (us ++ ls)) ≡ Fine (program_plain x))
+      → IsJudged q (program_plain x) r → IsCheckedBy p q.world.now r
+  judged x (Ok operations) fine is_so = record {
     core = program_plain x;
     checked = checked (Fine (program_plain x)) fine;
-    unchecked = λ fs all casts are.
-        let asked = are_asked p q names us ls is stands named fs all in
-        let counted : length (map file_plain x.files) ≡ length (map unit_plain (us ++ ls)) = as_many_files fs (map unit_plain (us ++ ls)) (program_plain x) (fine fs asked) in
-        let many : length x.files ≡ length (us ++ ls) = sym (length-map x.files file_plain) ∙ counted ∙ length-map (us ++ ls) unit_plain in
-        operations fs (λ k within. asked k (subst (λ n. k < n) many within)) casts are;
+    flows = is_so.0;
+    unchecked = λ fs all casts are. is_so.1 fs (of_files x fine fs all) casts are;
   }
+  judged x (Err (fault.Flow n r)) fine is_so = record { core = program_plain x; checked = checked (Fine (program_plain x)) fine; first = is_so }
+  judged x (Err (fault.Type n r)) fine is_so = absurd is_so
+  judged x (Err fault.NoMemory) fine is_so = tt

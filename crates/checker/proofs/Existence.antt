@@ -14,7 +14,7 @@ use Rattle.type_facts.specs.Facts.{Facts}
 use Rattle.type_facts.specs.Laws.{IsDecided}
 use Rattle.type_facts.proofs.Existence.{test, tells, super_by, field_by, field_is, methods_by}
 use Rattle.checker.specs.Checking.{AreFactsOf}
-use Rattle.checker.specs.Laws.{HaveFacts, IsOneCheck}
+use Rattle.checker.specs.Laws.{HasOrder, HaveFacts, IsOneCheck, IsOneFlow}
 
 -- what a name means in a file, if there is one
 abbrev mean_in : Program → Option File → Name → Option ℕ
@@ -64,3 +64,11 @@ pub one_check : IsOneCheck
 one_check p w c d decided sound a b =
     let x = have_facts p w decided sound in
     a x.0 x.1 ∙ sym (b x.0 x.1)
+
+pub has_order : HasOrder
+has_order w decided = (λ s t. test (decided.sub s t), λ s t. tells (decided.sub s t))
+
+pub one_flow : IsOneFlow
+one_flow w x a b decided is so =
+    let o = has_order w decided in
+    is o.0 o.1 ∙ sym (so o.0 o.1)

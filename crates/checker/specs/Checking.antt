@@ -22,6 +22,10 @@ use Rattle.java_core.specs.Plain as core
 use Rattle.checked.specs.Checked.{Checked, Fine, Broken}
 use Rattle.checked.specs.declared.stop.Stop.{Stop}
 use Rattle.checked.specs.declared.stop.Stop.TheVariants as stop
+use Rattle.unchecked_ops.specs.declared.program.Operation.{Operation}
+use Rattle.checker.specs.declared.fault.CheckFault.{CheckFault}
+use Rattle.checker.specs.declared.fault.CheckFault.TheVariants as fault
+use Rattle.checker.specs.Flows.{IsFlow}
 
 -- What is so in the k-th file of a program with this world, user files before library files: the type that a name means there (JLS 6.5), and what its world tells of
 -- types and members.
@@ -48,22 +52,36 @@ AreAllFacts p w fs = (k : ℕ) → k < length (files p) → AreFactsOf p w k (fs
 abbrev pub IsChecked : Program → World → Checked core.Program → Type 0
 IsChecked p w c = (fs : ℕ → Facts) → AreAllFacts p w fs → c ≡ program fs (p.user ++ p.lib)
 
--- the nodes of the unchecked operations of a core
-abbrev pub AreUnchecked : Program → World → core.Program → List ℕ → Type 0
-AreUnchecked p w c nodes = (fs : ℕ → Facts) → AreAllFacts p w fs → (casts : JavaType → JavaType → Bool) → AreCasts w casts → nodes ≡ program_ops fs casts c
+-- the unchecked operations of a core
+abbrev pub AreUnchecked : Program → World → core.Program → List Operation → Type 0
+AreUnchecked p w c operations =
+    (fs : ℕ → Facts) → AreAllFacts p w fs → (casts : JavaType → JavaType → Bool) → AreCasts w casts → operations ≡ program_ops fs casts c
 
--- no rule on types is broken, and these are the nodes of the unchecked operations
-pub record IsWellTyped (p : Program) (w : World) (nodes : List ℕ) : Type 0 where
+-- no rule on types or flow is broken, and these are the unchecked operations
+pub record IsWellTyped (p : Program) (w : World) (operations : List Operation) : Type 0 where
   pub core : core.Program
   pub checked : IsChecked p w (Fine core)
-  pub unchecked : AreUnchecked p w core nodes
+  pub flows : IsFlow w core None
+  pub unchecked : AreUnchecked p w core operations
 
 -- this is the first broken rule on types, at this node
 abbrev pub IsIllTyped : Program → World → (node rule : ℕ) → Type 0
 IsIllTyped p w node rule = IsChecked p w (Broken node rule)
 
+-- none on types is broken, and this is the first on flow, at this node
+pub record IsIllFlowing (p : Program) (w : World) (node rule : ℕ) : Type 0 where
+  pub core : core.Program
+  pub checked : IsChecked p w (Fine core)
+  pub first : IsFlow w core (Some (record { node = node; rule = rule }))
+
+-- why no core was made
+abbrev pub type_fault : Stop → CheckFault
+type_fault (stop.Broken node rule) = fault.Type node rule
+type_fault stop.NoMemory = fault.NoMemory
+
 -- nothing is said where memory ran out
-abbrev pub IsCheckedBy : Program → World → Result (List ℕ) Stop → Type 0
-IsCheckedBy p w (Ok nodes) = IsWellTyped p w nodes
-IsCheckedBy p w (Err (stop.Broken node rule)) = IsIllTyped p w node rule
-IsCheckedBy p w (Err stop.NoMemory) = Unit {0}
+abbrev pub IsCheckedBy : Program → World → Result (List Operation) CheckFault → Type 0
+IsCheckedBy p w (Ok operations) = IsWellTyped p w operations
+IsCheckedBy p w (Err (fault.Type node rule)) = IsIllTyped p w node rule
+IsCheckedBy p w (Err (fault.Flow node rule)) = IsIllFlowing p w node rule
+IsCheckedBy p w (Err fault.NoMemory) = Unit {0}

@@ -1,9 +1,15 @@
 -- Definite assignment of statements, members and programs (JLS 3rd edition, 8.3.1.2, 8.3.2.3, 16.2 to 16.9), a clause a form: rules F3, F4, F5, F11 and F12.
-use Rattle.std.specs.Prelude.{ℕ, Bool, true, false, ◌&&◌, not, List, [], ◌∷◌, ◌++◌, Option, Some, None, is_some, ◌==◌, if◌then◌else◌}
+use Rattle.std.specs.Prelude.{ℕ, Bool, true, false, ◌&&◌, not, List, [], ◌∷◌, ◌++◌, Option, Some, None, is_some, ◌==◌, if◌then◌else◌, map}
+use Rattle.std.specs.Option.{option_map}
 use Rattle.class_world.specs.declared.world.World.{World}
 use Rattle.class_world.specs.declared.world.FieldInfo.{FieldInfo}
 use Rattle.class_world.specs.declared.world.MethodInfo.{MethodInfo}
+use Rattle.java_core.specs.declared.expr.CoreExpr.{CoreExpr}
+use Rattle.java_core.specs.declared.stmt.CoreCatch.{CoreCatch}
+use Rattle.java_core.specs.declared.stmt.CoreGroup.{CoreGroup}
+use Rattle.java_core.specs.declared.stmt.CoreStmt.{CoreStmt}
 use Rattle.java_core.specs.Plain as p
+use Rattle.java_core.specs.View.{catch_plain, catch_row, group_plain, group_row, plain, plains, stmt_maybe, stmt_plain}
 use Rattle.type_kinds.specs.Members.{field_at, is_final_field, is_static_field, method_at}
 use Rattle.reachability.specs.declared.flaw.Flaw.{Flaw}
 use Rattle.reachability.specs.Flaws.{noted}
@@ -186,6 +192,18 @@ module _ (w : World) where
     pub finished : (before : List Variable) → p.MaybeStmt → State → State
     finished before p.NoStmt s = s
     finished before (p.AStmt a) s = at_last before (walk a) s
+
+  -- ---- forms with several parts, of the trees that the code has
+
+  abbrev pub for_of : Option CoreExpr → List CoreExpr → CoreStmt → State → State
+  for_of x xs a s = for_loop (optional_test (option_map plain x)) (values w None (plains xs)) (walk (stmt_plain a)) s
+
+  abbrev pub switch_of : List CoreGroup → State → State
+  switch_of gs s = switch (has_default (group_row (map group_plain gs))) (λ before. groups before (group_row (map group_plain gs))) s
+
+  abbrev pub try_of : CoreStmt → List CoreCatch → Option CoreStmt → State → State
+  try_of a cs last s =
+      tried (walk (stmt_plain a)) (λ before. catches before (catch_row (map catch_plain cs))) (λ before. finished before (stmt_maybe (option_map stmt_plain last))) s
 
 -- ---- blank final fields: F4
 

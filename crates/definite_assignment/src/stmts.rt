@@ -171,7 +171,7 @@ fn for_loop(
     body: &CoreStmt,
     s: &mut State,
 ) -> Result<(), NoMemory>
-    ensures { OnOk result (s.new ≡ spec.for_loop (spec.optional_test w.now (option_map plain x.now)) (assigned.values w.now None (plains step.now)) (spec.walk w.now (stmt_plain body.now)) s.old) }
+    ensures { OnOk result (s.new ≡ spec.for_of w.now x.now step.now body.now s.old) }
 {
     let outer = enter_loop(alloc, s);
     optional_test(alloc, w, x, s)?;
@@ -232,7 +232,7 @@ fn each_item(
 /// The groups of a switch, behind its value.
 #[cycle(walk)]
 fn switch(alloc: Global, w: &World, groups: &[CoreGroup], s: &mut State) -> Result<(), NoMemory>
-    ensures { OnOk result (s.new ≡ spec.switch (has_default_label (group_row (map group_plain groups.now))) (λ before. spec.groups w.now before (group_row (map group_plain groups.now))) s.old) }
+    ensures { OnOk result (s.new ≡ spec.switch_of w.now groups.now s.old) }
 {
     let at_first = copy_missing(alloc, s)?;
     let before = go_to(Items::new(alloc), s);
@@ -269,7 +269,7 @@ fn tried(
     last: &Option<Boxed<CoreStmt>>,
     s: &mut State,
 ) -> Result<(), NoMemory>
-    ensures { OnOk result (s.new ≡ spec.tried (spec.walk w.now (stmt_plain body.now)) (λ before. spec.catches w.now before (catch_row (map catch_plain catches.now))) (λ before. spec.finished w.now before (stmt_maybe (option_map stmt_plain last.now))) s.old) }
+    ensures { OnOk result (s.new ≡ spec.try_of w.now body.now catches.now last.now s.old) }
 {
     let before = copy_missing(alloc, s)?;
     walk(alloc, w, body, s)?;

@@ -21,7 +21,8 @@ use Rattle.java_core.specs.View.{row}
 use Rattle.checked.specs.Checked.{Checked, Fine, Broken, under, with_some}
 use Rattle.type_kinds.specs.Kinds.{ty_of, int, element, class_number, has, converted_all}
 use Rattle.type_facts.specs.Facts.{Facts}
-use Rattle.type_facts.specs.Members.{is_interface, seen_by, as_seen, accessed}
+use Rattle.type_kinds.specs.Members.{is_interface, is_static_field}
+use Rattle.type_facts.specs.Members.{seen_by, as_seen, accessed}
 use Rattle.type_facts.specs.Scopes.{own_type, find_local}
 use Rattle.type_facts.specs.declared.scope.Place.{Place}
 use Rattle.type_facts.specs.declared.scope.LocalVar.{LocalVar}
@@ -100,10 +101,6 @@ field_form g n (OfSuper t) false k = p.SuperField k
 abbrev pub access : Facts → Bool → Node → (declared t : JavaType) → p.Form → p.Expr
 access f true n d t x = accessed f n d t x
 access f false n d t x = p.At n t x
-
--- each field of an interface is static (9.3)
-abbrev pub is_static_field : World → FieldInfo → Bool
-is_static_field w i = has mods.Static i.mods || is_interface w i.owner
 
 -- the type of a field as it is used
 abbrev pub field_type : Facts → Place → Receiver → FieldInfo → JavaType

@@ -12,9 +12,9 @@ ghost use Rattle.member_uses.specs.Targets as spec;
 use crate::receiver::{Receiver, receiver_type};
 use crate::supers::superclass;
 use checked::Stop;
-use class_world::{Declared, FieldInfo, JavaType, World, copied};
+use class_world::{Declared, FieldInfo, JavaType, copied};
 use java_core::{Before, CoreExpr, CoreForm};
-use java_tree::tree::{Mod, Name, Node, Primitive};
+use java_tree::tree::{Name, Node, Primitive};
 use java_tree::{Boxed, NoMemory};
 use operator_rules::Use;
 use operator_rules::uses::{is_read, is_set};
@@ -22,14 +22,9 @@ use std::alloc::Global;
 use type_facts::Questions;
 use type_facts::asks::{field_named, has_access};
 use type_facts::scope::{LocalVar, Locals, Place, own_type};
-use type_facts::seen::{accessed, as_seen, is_interface, seen_by};
-use type_kinds::kinds::{element, has};
-
-fn is_static_field(w: &World, info: &FieldInfo) -> bool
-    ensures { result ≡ spec.is_static_field w.now info.now }
-{
-    has(Mod::Static, info.mods.as_slice()) || is_interface(w, info.owner)
-}
+use type_facts::seen::{accessed, as_seen, seen_by};
+use type_kinds::kinds::element;
+use type_kinds::members::is_static_field;
 
 // Whether a class can access a field (JLS 6.6). A simple name may name any field of its class.
 fn can_access_field(q: &Questions<'_>, place: &Place, of: &Receiver, number: u32) -> bool

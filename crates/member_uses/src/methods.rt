@@ -20,8 +20,9 @@ use std::alloc::Global;
 use type_facts::Questions;
 use type_facts::asks::{has_access, methods_named};
 use type_facts::scope::Place;
-use type_facts::seen::{Seen, as_seen, is_interface, seen_by};
+use type_facts::seen::{Seen, as_seen, seen_by};
 use type_kinds::kinds::{class_number, has};
+use type_kinds::members::is_interface;
 
 /// Whether a method is static (JLS 8.4.3.2).
 pub fn is_static_method(m: &MethodInfo) -> bool

@@ -7,8 +7,8 @@ ghost use Rattle.member_uses.specs.Targets as spec;
 use class_world::{JavaType, World, copied};
 use java_tree::NoMemory;
 use std::alloc::Global;
-use type_facts::seen::is_interface;
 use type_kinds::kinds::class_number;
+use type_kinds::members::is_interface;
 
 fn is_class_type(w: &World, c: Option<u32>) -> bool
     ensures { result ≡ spec.is_class_type w.now c }

@@ -2,15 +2,12 @@
 use Rattle.std.specs.Prelude.{ℕ, Bool, true, false, ◌&&◌, ◌||◌, not, List, [], ◌∷◌, length, map, Option, Some, None, slice_get, ◌==◌, if◌then◌else◌}
 use Rattle.std.specs.List.{list_any}
 use Rattle.java_tree.specs.declared.tree.Node.{Node}
-use Rattle.java_tree.specs.declared.tree.Mod.TheVariants as mods
 use Rattle.java_tree.specs.declared.tree.UnOp.{UnOp}
 use Rattle.java_tree.specs.declared.tree.UnOp.TheVariants as un
 use Rattle.java_tree.specs.declared.tree.BinOp.{BinOp}
 use Rattle.java_tree.specs.declared.tree.BinOp.TheVariants as bin
 use Rattle.java_tree.specs.declared.tree.Primitive.{Primitive}
 use Rattle.java_tree.specs.declared.tree.Primitive.TheVariants as prim
-use Rattle.class_world.specs.declared.world.World.{World}
-use Rattle.class_world.specs.declared.world.FieldInfo.{FieldInfo}
 use Rattle.class_world.specs.declared.world.JavaType.{JavaType}
 use Rattle.class_world.specs.declared.world.JavaType.TheOpen as form
 use Rattle.class_world.specs.declared.world.JavaType.TheOpen.{JavaType-F}
@@ -19,9 +16,9 @@ use Rattle.java_core.specs.declared.expr.Kind.{Kind}
 use Rattle.java_core.specs.declared.expr.Kind.TheVariants as kind
 use Rattle.java_core.specs.Plain as p
 use Rattle.checked.specs.Checked.{Checked, Fine, Broken, and_then, under, with_some}
-use Rattle.type_kinds.specs.Kinds.{ty_of, form_of, int, long, boolean, primitive, element, is_numeric, is_boolean, is_long, is_short, is_string, is_reference, is_primitive, boolean_primitive, joint_kind, lone_kind, kind_type, operand, converted, has}
+use Rattle.type_kinds.specs.Kinds.{ty_of, form_of, int, long, boolean, primitive, element, is_numeric, is_boolean, is_long, is_short, is_string, is_reference, is_primitive, boolean_primitive, joint_kind, lone_kind, kind_type, operand, converted}
 use Rattle.type_facts.specs.Facts.{Facts}
-use Rattle.type_facts.specs.Members.{is_interface}
+use Rattle.type_kinds.specs.Members.{is_final_field}
 use Rattle.type_facts.specs.declared.scope.Place.{Place}
 use Rattle.type_facts.specs.declared.scope.LocalVar.{LocalVar}
 use Rattle.operator_rules.specs.declared.uses.Use.{Use}
@@ -47,11 +44,6 @@ abbrev pub unary : Node → UnOp → Checked p.Expr → Checked p.Expr
 unary n op a = and_then a (λ x. unary_of n op x)
 
 -- ---- what may be assigned: T60
-
--- each field of an interface is final (9.3)
-abbrev pub is_final_field : World → Option FieldInfo → Bool
-is_final_field w None = false
-is_final_field w (Some i) = has mods.Final i.mods || is_interface w i.owner
 
 abbrev pub is_final_local : List LocalVar → (slot : ℕ) → Bool
 is_final_local ls k = list_any (λ l. l.is_final && (l.slot == k)) ls

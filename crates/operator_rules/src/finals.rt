@@ -1,28 +1,16 @@
 //! What may be assigned (JLS 4.5.4, 8.3.1.2, 15.26).
 
-ghost use Rattle.std.specs.Prelude.{◌≡◌, slice_get};
+ghost use Rattle.std.specs.Prelude.{◌≡◌};
 ghost use Rattle.java_core.specs.View.{plain};
 ghost use Rattle.type_kinds.specs.Kinds.{form_of};
 ghost use Rattle.type_facts.specs.Facts.{AreFacts, Facts};
 ghost use Rattle.operator_rules.specs.Operators as spec;
 
 use crate::uses::Use;
-use class_world::World;
 use java_core::{CoreExpr, CoreForm};
-use java_tree::tree::Mod;
 use type_facts::Questions;
 use type_facts::scope::{LocalVar, Locals, Place};
-use type_facts::seen::is_interface;
-use type_kinds::kinds::has;
-
-fn is_final_field(w: &World, field: u32) -> bool
-    ensures { result ≡ spec.is_final_field w.now (slice_get w.now.fields field) }
-{
-    match w.fields.get(field as usize) {
-        None => false,
-        Some(info) => has(Mod::Final, info.mods.as_slice()) || is_interface(w, info.owner),
-    }
-}
+use type_kinds::members::is_final_field;
 
 fn is_final_local(locals: &[LocalVar], slot: u32) -> bool
     ensures { result ≡ spec.is_final_local locals.now slot }

@@ -11,8 +11,8 @@ use Rattle.built_in_types.specs.BuiltIns.{with_words}
 use Rattle.refactor_app.specs.declared.asked.Inputs.{Inputs}
 use Rattle.refactor_app.specs.declared.asked.Task.{Task}
 use Rattle.refactor_app.specs.declared.asked.Task.TheVariants as task
-use Rattle.refactor_app.specs.Words.{AsksCheck}
-use Rattle.refactor_app.specs.Asked.{AsksTask, task_files}
+use Rattle.refactor_app.specs.Words.{AsksCheck, Files}
+use Rattle.refactor_app.specs.Asked.{AsksTask, files_of, task_files}
 use Rattle.refactor_app.specs.Declarations.{IsOfFiles}
 use Rattle.refactor_app.proofs.Courses.{map_length}
 
@@ -32,10 +32,9 @@ of_files users n names table units us p many words same is =
     (subst (λ (ns : List (List ℕ)). IsProgram ns (take n (map unit_plain units)) (drop n (map unit_plain units)) p) (sym words)
     (subst (λ (n : ℕ). IsProgram (with_words names) (take n (map unit_plain units)) (drop n (map unit_plain units)) p) many is))
 
-module _ (t : Task) (i : Inputs) (check : t ≡ task.Check i) where
-  -- so many user files
-  pub check_users : length (task_files t).users ≡ length i.users.now
-  check_users = ap (λ (t : Task). length (task_files t).users) check ∙ map_length string_bytes i.users.now
+-- so many user files
+pub user_count : (t : Task) (i : Inputs) → files_of i ≡ task_files t → length (task_files t).users ≡ length i.users.now
+user_count t i same = ap (λ (f : Files). length f.users) (sym same) ∙ map_length string_bytes i.users.now
 
-  pub check_asked : (words : List (List ℕ)) → AsksTask words t → AsksCheck words (task_files t)
-  check_asked words asks = subst (λ (t : Task). AsksCheck words (task_files t)) (sym check) (subst (λ (t : Task). AsksTask words t) check asks)
+pub check_asked : (t : Task) (i : Inputs) → t ≡ task.Check i → (words : List (List ℕ)) → AsksTask words t → AsksCheck words (task_files t)
+check_asked t i check words asks = subst (λ (t : Task). AsksCheck words (task_files t)) (sym check) (subst (λ (t : Task). AsksTask words t) check asks)

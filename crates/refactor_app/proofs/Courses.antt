@@ -37,34 +37,38 @@ use Rattle.refactor_app.specs.declared.decide.Changed.{Changed}
 use Rattle.refactor_app.specs.Words.{Files, Request, inputs, IsAlone, Asks, AsksCheck, Uses, AskOther, out_name}
 use Rattle.refactor_app.specs.Verdicts.{Refuses, Changes}
 use Rattle.class_world.specs.declared.world.World.{World}
-use Rattle.decl_table.specs.Program.{Program}
-use Rattle.checker.specs.Checking.{IsWellTyped, IsIllTyped}
+use Rattle.java_tree.specs.declared.fault.Broken.{Broken}
+use Rattle.unchecked_ops.specs.declared.program.Operation.{Operation}
+use Rattle.checker.specs.Checking.{IsWellTyped}
+use Rattle.refactor_app.specs.declared.declarations.Declared.{Declared}
+use Rattle.refactor_app.specs.Judged.{AreDeclaredAs}
 use Rattle.refactor_app.specs.declared.asked.Task.{Task}
 use Rattle.refactor_app.specs.declared.asked.Task.TheVariants as task
 use Rattle.refactor_app.specs.declared.check.CheckAnswer.{CheckAnswer}
 use Rattle.refactor_app.specs.declared.check.CheckAnswer.TheVariants as answer
 use Rattle.refactor_app.specs.Asked.{AsksTask, HasType, request_of, task_files}
 use Rattle.refactor_app.specs.Declarations.{AreDeclared}
-use Rattle.refactor_app.specs.Checked.{Answers}
+use Rattle.refactor_app.specs.Checked.{Answers, AreAnswered, large_line}
 use Rattle.refactor_app.specs.Decided.{IsChange}
-use Rattle.refactor_app.specs.Refusals.{AsksFew, HasDeclared, Refusal}
+use Rattle.refactor_app.specs.Refusals.{AsksFew, HasDeclared, IsCheckRefusal, IsLarge, Refusal}
 use Rattle.refactor_app.specs.Refusals as refusal
 use Rattle.refactor_app.specs.Checking.{Passes}
 use Rattle.refactor_app.specs.Answers.{Ends}
-use Rattle.refactor_app.specs.Course.{Moment, EndsAt, Finishes, Sequel, Course, IsAsked}
+use Rattle.refactor_app.specs.Course.{Moment, EndsAt, EndsWith, Finishes, Sequel, Course, IsAsked}
 use Rattle.refactor_app.specs.Course as way
 use Rattle.refactor_app.specs.Stops.{Stops, TellsStop, IsNamed}
 use Rattle.refactor_app.proofs.Declaring.{still_declared}
 
-pub refuse : (q : Request) (text line bytes : List ℕ) (a b : Moment) (st : Status) → bytes ≡ line → Refuses q text line → b.holds ≡ a.holds → EndsAt a b bytes s.Refused st → Sequel q text a b st
-refuse q text line bytes a b st e r same ends = way.Sequel.refuses r same (subst (λ (x : List ℕ). EndsAt a b x s.Refused st) e ends)
+pub refuse : (q : Request) (text : List ℕ) (x : CheckAnswer) (line bytes : List ℕ) (a b : Moment) (st : Status)
+    → bytes ≡ line → Refuses q text line → b.holds ≡ a.holds → EndsAt a b bytes s.Refused st → Sequel q text x a b st
+refuse q text x line bytes a b st e r same ends = way.Sequel.refuses r same (subst (λ (l : List ℕ). EndsAt a b l s.Refused st) e ends)
 
-pub finished : (q : Request) (text : List ℕ) (a b : Moment) (st : Status) (c : Changed) → IsChange q text c
-    → Finishes a.holds b.holds a.write_faults b.write_faults c (Ends a.put b.put a.faults b.faults) st → Sequel q text a b st
-finished q text a b st c is (inl h) =
-    way.Sequel.writes is.changes (subst (λ (n : List ℕ). WhereTold a.holds b.holds (PutsAt n c.text.items)) is.name h.0) (subst (λ (x : List ℕ). EndsAt a b x s.Done st) is.report h.1)
-finished q text a b st c is (inr h) =
-    way.Sequel.fails is.changes (subst (λ (n : List ℕ). WhereTold a.holds b.holds (SameBut n)) is.name h.0) h.1 (subst (λ (x : List ℕ). EndsAt a b x s.WriteFault st) is.fault h.2)
+pub finished : (q : Request) (text : List ℕ) (x : CheckAnswer) (a b : Moment) (st : Status) (c : Changed) → IsChange q text c
+    → Finishes a.holds b.holds a.write_faults b.write_faults c (Ends a.put b.put a.faults b.faults) st → Sequel q text x a b st
+finished q text x a b st c is (inl h) =
+    way.Sequel.writes is.changes (subst (λ (n : List ℕ). WhereTold a.holds b.holds (PutsAt n c.text.items)) is.name h.0) (subst (λ (l : List ℕ). EndsAt a b l s.Done st) is.report h.1)
+finished q text x a b st c is (inr h) =
+    way.Sequel.fails is.changes (subst (λ (n : List ℕ). WhereTold a.holds b.holds (SameBut n)) is.name h.0) h.1 (subst (λ (l : List ℕ). EndsAt a b l s.WriteFault st) is.fault h.2)
 
 -- ---- what is held
 
@@ -114,6 +118,35 @@ one_user words q asks is = users_one q.file q.file q.files.users q.files.libs (f
 pub not_alone : (q : Request) (texts : List (List ℕ)) (look : Option Look) → AreHeld look 0 (inputs q.files) texts → (length texts ≡ 1 → ⊥) → IsAlone q → ⊥
 not_alone q texts look h many is = many (sym (held_long look 0 (inputs q.files) texts h) ∙ ap length is)
 
+-- ---- a check
+
+module _ (words : List (List ℕ)) (fs : Files) (texts names : List (List ℕ)) (units : List SourceUnit) (a b : Moment) (st : Status) (w : World)
+    (h : HasDeclared words a.holds fs texts names units) (world : h.declared.world ≡ w) where
+  refusal_told : (rule : Broken) → IsCheckRefusal h.declared.program w rule → IsCheckRefusal h.declared.program h.declared.world rule
+  refusal_told rule broken = subst (λ (w : World). IsCheckRefusal h.declared.program w rule) (sym world) broken
+
+  typed_told : (operations : List Operation) → IsWellTyped h.declared.program w operations → IsWellTyped h.declared.program h.declared.world operations
+  typed_told operations well = subst (λ (w : World). IsWellTyped h.declared.program w operations) (sym world) well
+
+  -- what becomes of a check of files is what becomes of the call
+  pub on_check : (x : CheckAnswer) → AsksCheck words fs → Answers fs texts units h.declared.program w x → b.holds ≡ a.holds → EndsWith a.put b.put a.faults b.faults x st → Course words a b st
+  on_check (answer.Refused line) asks (rule, broken, is) same ends =
+      way.Course.refuses (refusal.Refusal.checked fs texts names units rule (inl asks) h (refusal_told rule broken)) same (subst (λ (x : List ℕ). EndsAt a b x s.Refused st) is ends)
+  on_check (answer.Passed report) asks (operations, well, is) same ends =
+      way.Course.checks {line = string_bytes report}
+      (record { fs = fs; texts = texts; names = names; units = units; operations = operations; asks = asks; declared = h; typed = typed_told operations well; is = is }) same ends
+
+-- a change that no small program answers
+pub on_large : (words : List (List ℕ)) (q : Request) (texts names : List (List ℕ)) (units : List SourceUnit) (a b : Moment) (st : Status) (w : World)
+    (h : HasDeclared words a.holds q.files texts names units) → h.declared.world ≡ w → (x : CheckAnswer) → Asks words q → IsLarge q texts → Answers q.files texts units h.declared.program w x
+    → b.holds ≡ a.holds → EndsAt a b (large_line x) s.Refused st → Course words a b st
+on_large words q texts names units a b st w h world (answer.Refused line) asks large (rule, broken, is) same ends =
+    way.Course.refuses (refusal.Refusal.checked q.files texts names units rule (inr (q, refl, asks, large)) h (refusal_told words q.files texts names units a b st w h world rule broken)) same
+    (subst (λ (x : List ℕ). EndsAt a b x s.Refused st) is ends)
+on_large words q texts names units a b st w h world (answer.Passed report) asks large (operations, well, is) same ends =
+    way.Course.refuses (refusal.Refusal.n2 q texts names units asks large
+    (record { declared = h; operations = operations; typed = typed_told words q.files texts names units a b st w h world operations well })) same ends
+
 module _ (words : List (List ℕ)) (q : Request) (text : List ℕ) (names : List (List ℕ)) (u : SourceUnit) (a b : Moment) (st : Status) where
   asked : Asks words q → HasDeclared words a.holds q.files (text ∷ []) names (u ∷ []) → IsAlone q → (made : List ℕ) (e : Edit) → Changes q text made e → IsAsked words a q made e
   asked asks declared is made e c =
@@ -121,11 +154,14 @@ module _ (words : List (List ℕ)) (q : Request) (text : List ℕ) (names : List
       record { text = text; names = names; unit = u; asks = asks; declared = declared; alone = is; changes = c; still_declared = still_declared q text names u made e declared.parsed.trees one c }
 
   -- what becomes of a request on the text is what becomes of the call
-  pub on_alone : Asks words q → HasDeclared words a.holds q.files (text ∷ []) names (u ∷ []) → IsAlone q → Sequel q text a b st → Course words a b st
-  on_alone asks declared is (way.Sequel.refuses {line = line} r same ends) = way.Course.refuses (refusal.Refusal.refuses q text names u asks declared is r) same ends
-  on_alone asks declared is (way.Sequel.writes {made = made} {e = e} c told ends) = way.Course.writes (asked asks declared is made e c) told ends
-  on_alone asks declared is (way.Sequel.fails {made = made} {e = e} c told rose ends) = way.Course.fails (asked asks declared is made e c) told rose ends
-  on_alone asks declared is (way.Sequel.no_memory e p none) = way.Course.no_memory e p none
+  pub on_alone : (w : World) (x : CheckAnswer) → Asks words q → (declared : HasDeclared words a.holds q.files (text ∷ []) names (u ∷ [])) → declared.declared.world ≡ w
+      → Answers q.files (text ∷ []) (u ∷ []) declared.declared.program w x → IsAlone q → Sequel q text x a b st → Course words a b st
+  on_alone w x asks declared world answered is (way.Sequel.large none same ends) =
+      on_large words q (text ∷ []) names (u ∷ []) a b st w declared world x asks (inr (text, is, refl, none)) answered same ends
+  on_alone w x asks declared world answered is (way.Sequel.refuses {line = line} r same ends) = way.Course.refuses (refusal.Refusal.refuses q text names u asks declared is r) same ends
+  on_alone w x asks declared world answered is (way.Sequel.writes {made = made} {e = e} c told ends) = way.Course.writes (asked asks declared is made e c) told ends
+  on_alone w x asks declared world answered is (way.Sequel.fails {made = made} {e = e} c told rose ends) = way.Course.fails (asked asks declared is made e c) told rose ends
+  on_alone w x asks declared world answered is (way.Sequel.no_memory e p none) = way.Course.no_memory e p none
 
 pub map_length : {X Y : Type 0} (f : X → Y) (xs : List X) → length (map f xs) ≡ length xs
 map_length f [] = refl
@@ -159,22 +195,24 @@ users_within look fs texts units names held trees =
     omega (arith, many, files, both)
 
 -- the text, and the tree, of the one file
-pub record IsOneFile (look : Option Look) (fs : Files) (text : List ℕ) (names : List (List ℕ)) (u : SourceUnit) : Type 0 where
+pub record IsOneFile (look : Option Look) (fs : Files) (text : List ℕ) (names : List (List ℕ)) (u : SourceUnit) (d : Declared) (x : CheckAnswer) : Type 0 where
   pub held : AreHeld look 0 (inputs fs) (text ∷ [])
   pub trees : AreTrees built_in_names 0 0 (text ∷ []) (u ∷ []) names
-  pub declared : AreDeclared (length fs.users) names (u ∷ [])
+  pub declared : AreDeclaredAs (length fs.users) names (u ∷ []) d
+  pub answered : AreAnswered fs (text ∷ []) names (u ∷ []) d x
 
-pub one_file : {X : Type 0} (view : X → SourceUnit) (look : Option Look) (fs : Files) (texts : List (List ℕ)) (text : List ℕ) (names : List (List ℕ)) (units rest : List X) (x : X)
-    → AreHeld look 0 (inputs fs) texts → AreTrees built_in_names 0 0 texts (map view units) names → AreDeclared (length fs.users) names (map view units) → length texts ≡ 1 → text ≡ get_or texts 0 text → units ≡ rest ++ x ∷ []
-    → IsOneFile look fs text names (view x)
-one_file view look fs texts text names units rest x held trees declared one is last =
+pub one_file : {X : Type 0} (view : X → SourceUnit) (look : Option Look) (fs : Files) (texts : List (List ℕ)) (text : List ℕ) (names : List (List ℕ)) (units rest : List X) (x : X) (d : Declared) (c : CheckAnswer)
+    → AreHeld look 0 (inputs fs) texts → AreTrees built_in_names 0 0 texts (map view units) names → AreDeclaredAs (length fs.users) names (map view units) d
+    → AreAnswered fs texts names (map view units) d c → length texts ≡ 1 → text ≡ get_or texts 0 text → units ≡ rest ++ x ∷ [] → IsOneFile look fs text names (view x) d c
+one_file view look fs texts text names units rest x d c held trees declared answered one is last =
     let alone_text : texts ≡ text ∷ [] = only_one texts text one is in
     let many : length units ≡ 1 = sym (map_length view units) ∙ trees_long built_in_names 0 0 texts (map view units) names trees ∙ one in
     let alone_unit : units ≡ x ∷ [] = last_one units rest x last many in
     record {
       held = subst (λ (xs : List (List ℕ)). AreHeld look 0 (inputs fs) xs) alone_text held;
       trees = subst (λ (xs : List (List ℕ)). AreTrees built_in_names 0 0 xs (view x ∷ []) names) alone_text (subst (λ us. AreTrees built_in_names 0 0 texts (map view us) names) alone_unit trees);
-      declared = subst (λ us. AreDeclared (length fs.users) names (map view us)) alone_unit declared;
+      declared = subst (λ us. AreDeclaredAs (length fs.users) names (map view us) d) alone_unit declared;
+      answered = subst (λ (xs : List (List ℕ)). AreAnswered fs xs names (view x ∷ []) d c) alone_text (subst (λ us. AreAnswered fs texts names (map view us) d c) alone_unit answered);
     }
 
 pub one_small : (look : Option Look) (before : ℕ) (names : List (List ℕ)) (text : List ℕ) → AreHeld look before names (text ∷ []) → length text ≤ 1048576
@@ -187,29 +225,11 @@ one_input look before (n ∷ []) text h = (n, refl)
 one_input look before (n ∷ m ∷ ns) text (is, room, more) = absurd more
 
 module _ (words : List (List ℕ)) (q : Request) (text : List ℕ) (names : List (List ℕ)) (u : SourceUnit) (a b : Moment) (st : Status) where
-  pub on_one : Asks words q → AsksFew words q.files → IsOneFile a.holds q.files text names u → Sequel q text a b st → Course words a b st
-  on_one asks few is h =
+  pub on_one : (d : Declared) (x : CheckAnswer) → Asks words q → AsksFew words q.files → IsOneFile a.holds q.files text names u d x → Sequel q text x a b st → Course words a b st
+  on_one d x asks few is h =
       let input = one_input a.holds 0 (inputs q.files) text is.held in
-      on_alone words q text names u a b st asks (record { parsed = record { read = record { asks = few; held = is.held }; trees = is.trees }; declared = is.declared })
-      (alone words q input.0 asks input.1) h
-
--- ---- a check
-
--- the answer of a check is put
-abbrev pub EndsWith : Moment → Moment → CheckAnswer → Status → Type 0
-EndsWith a b (answer.Refused line) st = EndsAt a b (string_bytes line) s.Refused st
-EndsWith a b (answer.Passed report) st = EndsAt a b (string_bytes report) s.Done st
-
--- what becomes of a check of files is what becomes of the call
-pub on_check : (words : List (List ℕ)) (fs : Files) (texts names : List (List ℕ)) (units : List SourceUnit) (a b : Moment) (st : Status) (p : Program) (w : World) (x : CheckAnswer)
-    → AsksCheck words fs → (h : HasDeclared words a.holds fs texts names units) → h.declared.program ≡ p → h.declared.world ≡ w → Answers fs texts units p w x
-    → b.holds ≡ a.holds → EndsWith a b x st → Course words a b st
-on_check words fs texts names units a b st p w (answer.Refused line) asks h program world (node, rule, ill, is) same ends =
-    let told = subst (λ (w : World). IsIllTyped h.declared.program w node rule) (sym world) (subst (λ (p : Program). IsIllTyped p w node rule) (sym program) ill) in
-    way.Course.refuses (refusal.Refusal.typed fs texts names units node rule asks h told) same (subst (λ (x : List ℕ). EndsAt a b x s.Refused st) is ends)
-on_check words fs texts names units a b st p w (answer.Passed report) asks h program world (nodes, well, is) same ends =
-    let typed = subst (λ (w : World). IsWellTyped h.declared.program w nodes) (sym world) (subst (λ (p : Program). IsWellTyped p w nodes) (sym program) well) in
-    way.Course.checks {line = string_bytes report} (record { fs = fs; texts = texts; names = names; units = units; nodes = nodes; asks = asks; declared = h; typed = typed; is = is }) same ends
+      on_alone words q text names u a b st d.world x asks (record { parsed = record { read = record { asks = few; held = is.held }; trees = is.trees }; declared = is.declared.declared })
+      is.declared.world (is.answered is.declared.declared.program is.declared.declared.files) (alone words q input.0 asks input.1) h
 
 -- ---- a task
 

@@ -41,14 +41,15 @@ use Rattle.refactor_app.proofs.Changing.{named}
 pub refuses : (q : Request) (text line : List ℕ) (d : Verdict) → Refuses q text line → IsLine line d → Decides q text d
 refuses q text line (v.Refused x) r is = subst (λ (l : List ℕ). Refuses q text l) (sym is) r
 refuses q text line (v.Changed c) r is = absurd is
+refuses q text line v.General r is = absurd is
 
 -- and where it could be made
 pub refused_by : {E : Type 0} (q : Request) (text line : List ℕ) (o : Result Verdict E) → Refuses q text line → IfOk o (IsLine line) → IfOk o (Decides q text)
 refused_by q text line (Ok d) r is = refuses q text line d r is
 refused_by q text line (Err e) r is = tt
 
-pub no_program : (q : Request) (text : List ℕ) → IsNoProgram text → Refuses q text (refused (codes "N2"))
-no_program q text none = verdict.n2 (λ p small c is. none p small)
+pub no_program : (q : Request) (text : List ℕ) → IsNoProgram text → IsNotSmall q text
+no_program q text none = λ p small c is. none p small
 
 -- what a name of a type has the number of is in the world
 named_low : (u : t.SourceUnit) (n c : ℕ) → (if n == 0 then Some 0 else place_of n (before_last u.types) 19) ≡ Some c → c < length (world_of u).types
@@ -83,11 +84,11 @@ module _ (text : List ℕ) (s : Small) (is : IsProgramOf text s) where
   pub target_low : (word : List ℕ) (c : ℕ) → IsTarget s word c → c < length s.declared.world.types
   target_low word c named = subst (λ (w : World). c < length w.types) (sym is.2.world) (named_low (unit_plain s.unit) named.0 c named.2)
 
-  -- N2: the word names no type of the program
-  pub no_target : (q : Request) → ((c : ℕ) → IsTarget s q.ty c → ⊥) → Refuses q text (refused (codes "N2"))
-  no_target q none = verdict.n2 (λ other small c named.
+  -- the word names no type of the program
+  pub no_target : (q : Request) → ((c : ℕ) → IsTarget s q.ty c → ⊥) → IsNotSmall q text
+  no_target q none = λ other small c named.
       let same : program_of s.names is.0 s.unit ≡ other = one_program text (program_of s.names is.0 s.unit) other distinct is.1.read small.read in
-      none c (subst (λ (p : Program). IsTypeNamed p q.ty c) (sym same) named))
+      none c (subst (λ (p : Program). IsTypeNamed p q.ty c) (sym same) named)
 
   module _ (q : Request) (target : ℕ) (to : IsTarget s q.ty target) where
     pub speaks : Speaks q text (program_of s.names is.0 s.unit) target

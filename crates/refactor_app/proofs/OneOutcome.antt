@@ -1,4 +1,4 @@
--- Words and files whose contents are told come to one outcome, but for the place of G1 and for what a check says of types.
+-- Words and files whose contents are told come to one outcome, but for the place of G1 and for what is said where a check was made.
 use Rattle.std.proofs.Common.{◌≡◌, ◌≢◌, ℕ, ◌<◌, ◌⊎◌, inl, inr, List, [], ◌∷◌, ◌++◌, length, Some, slice_get, refl, sym, ◌∙◌, ap, subst, arith, codes}
 use Rattle.std.specs.Fmt.{decimal}
 use Rattle.java_tree.specs.Names.{IsTable, built_in_names}
@@ -13,17 +13,17 @@ use Rattle.source_files.specs.Trees.{AreTrees, BreaksAt, Fault, Lexical, Tokens,
 use Rattle.command_words.specs.Rules.{IsLowest}
 use Rattle.report_text.specs.Report.{refused, refused_at}
 use Rattle.refactor_app.specs.Words.{Files, Request, inputs, IsAlone, Asks, AsksCheck, Uses, AskOther}
-use Rattle.refactor_app.specs.Verdicts.{Refuses, Changes}
+use Rattle.refactor_app.specs.Verdicts.{Refuses, Changes, IsNotSmall}
 use Rattle.refactor_app.specs.Declarations.{AreDeclared, IsBroken, broken_line}
-use Rattle.refactor_app.specs.Refusals.{most_files, AsksFew, HasRead, HasParsed, IsAt, Tells, type_rule, Refusal}
+use Rattle.refactor_app.specs.Refusals.{most_files, AsksFew, AsksGeneral, HasRead, HasParsed, IsAt, IsLarge, Tells, Refusal}
 use Rattle.refactor_app.specs.Refusals as refusal
-use Rattle.refactor_app.specs.Outcomes.{Outcome, Misused, Absent, Refused, Changed, Judged, ComesTo, IsTreeless, AreTreeless, IsTypeRefusal, IsOfTypes}
+use Rattle.refactor_app.specs.Outcomes.{Outcome, Misused, Absent, Refused, Changed, Judged, ComesTo, IsTreeless, AreTreeless, IsTypeRefusal, IsLargeRefusal, IsOfTypes}
 use Rattle.refactor_app.proofs.Asking.{one_request, one_files}
 use Rattle.refactor_app.proofs.OneSense.{lowest_or_asks, lowest_or_other, other_or_asks, change_or_check, one_lowest}
 use Rattle.refactor_app.proofs.OneReading.{one_held, held_or_stops, one_stop}
 use Rattle.refactor_app.proofs.OneParse.{IsNoTree, AreAlike, trees_or_breaks, one_break, one_trees, trees_table}
 use Rattle.refactor_app.proofs.OneDeclared.{one_rule, broken_or_declared}
-use Rattle.refactor_app.proofs.OneVerdict.{one_refusal, not_both, one_change}
+use Rattle.refactor_app.proofs.OneVerdict.{one_refusal, refusal_speaks, not_both, one_change}
 
 -- ---- what each way of words with files comes to
 
@@ -41,7 +41,7 @@ data Alone (q : Request) (text : List ℕ) : Outcome → Type 0 where
 
 -- of files whose declarations break no rule
 data Done (words : List (List ℕ)) (look : Look) (texts : List (List ℕ)) : Outcome → Type 0 where
-  crowd : (q : Request) → Asks words q → (IsAlone q → ⊥) → Done words look texts (Refused (refused (codes "N2")))
+  large : (q : Request) {o : Outcome} → Asks words q → IsLarge q texts → IsOfTypes words (Some look) o → Done words look texts o
   single : (q : Request) (text : List ℕ) {o : Outcome} → Asks words q → IsAlone q → texts ≡ text ∷ [] → Alone q text o → Done words look texts o
   types : (fs : Files) {o : Outcome} → AsksCheck words fs → IsOfTypes words (Some look) o → Done words look texts o
 
@@ -78,6 +78,10 @@ on_parsed : (words : List (List ℕ)) (look : Look) (fs : Files) (texts names : 
     → Sound words look fs texts names units o → Sense words look o
 on_parsed words look fs texts names units o h sound = asks fs h.read.asks.uses (inr (h.read.asks, inr (texts, h.read.held, inr (units, names, h.trees, sound))))
 
+by_general : (words : List (List ℕ)) (look : Look) (fs : Files) (texts : List (List ℕ)) (o : Outcome) → AsksGeneral words fs texts → IsOfTypes words (Some look) o → Done words look texts o
+by_general words look fs texts o (inl check) told = types fs check told
+by_general words look fs texts o (inr (q, is, change, large_is)) told = large q change large_is told
+
 by_refusal : (words : List (List ℕ)) (look : Look) (line : List ℕ) → Refusal words (Some look) line → Sense words look (Refused line)
 by_refusal words look line (refusal.Refusal.n1 h) = other h refl
 by_refusal words look line (refusal.Refusal.l1 fs h many) = asks fs h (inl (many, refl))
@@ -85,10 +89,12 @@ by_refusal words look line (refusal.Refusal.l2 fs k few stops) = asks fs few.use
 by_refusal words look line (refusal.Refusal.l3 fs k few stops) = asks fs few.uses (inr (few, inl (k, TooMuch, stops, refl)))
 by_refusal words look line (refusal.Refusal.broken fs texts k f read breaks tells) = asks fs read.asks.uses (inr (read.asks, inr (texts, read.held, inl (k, f, line, breaks, tells, refl))))
 by_refusal words look line (refusal.Refusal.declared fs texts names units b parsed broken) = on_parsed words look fs texts names units _ parsed (inl (b, broken, refl))
-by_refusal words look line (refusal.Refusal.typed fs texts names units node rule check h broken) =
-    let told : IsTypeRefusal words (Some look) (broken_line fs texts units (type_rule node rule)) = record { fs = fs; texts = texts; names = names; units = units; node = node; rule = rule; asks = check; declared = h; broken = broken; is = refl } in
-    on_parsed words look fs texts names units _ h.parsed (inr (h.declared, types fs check told))
-by_refusal words look line (refusal.Refusal.n2 q texts names units change h none) = on_parsed words look q.files texts names units _ h.parsed (inr (h.declared, crowd q change none))
+by_refusal words look line (refusal.Refusal.checked fs texts names units rule general h broken) =
+    let told : IsTypeRefusal words (Some look) (broken_line fs texts units rule) = record { fs = fs; texts = texts; names = names; units = units; rule = rule; asks = general; declared = h; broken = broken; is = refl } in
+    on_parsed words look fs texts names units _ h.parsed (inr (h.declared, by_general words look fs texts (Refused (broken_line fs texts units rule)) general (inl told)))
+by_refusal words look line (refusal.Refusal.n2 q texts names units change large_is h) =
+    let told : IsLargeRefusal words (Some look) (refused (codes "N2")) = record { q = q; texts = texts; names = names; units = units; asks = change; large = large_is; checked = h; is = refl } in
+    on_parsed words look q.files texts names units _ h.declared.parsed (inr (h.declared.declared, large q change large_is (inr told)))
 by_refusal words look line (refusal.Refusal.refuses q text names u change h is r) =
     on_parsed words look q.files (text ∷ []) names (u ∷ []) _ h.parsed (inr (h.declared, single q text change is refl (refuses r)))
 
@@ -121,6 +127,11 @@ one_alone q text a b (refuses {line = x} r) (changes {made = m} {e = e} c) = abs
 one_alone q text a b (changes {made = m} {e = e} c) (refuses {line = x} r) = absurd (not_both q text x m e r c)
 one_alone q text a b (changes {made = m} {e = d} c) (changes {made = n} {e = e} h) = let same = one_change q text m n d e c h in rw (same.0, same.1) refl
 
+-- a small program that has the type answers a change
+not_large : (q : Request) (text : List ℕ) (o : Outcome) → Alone q text o → IsNotSmall q text → ⊥
+not_large q text o (refuses {line = line} r) none = let s = refusal_speaks q text line r in none s.0 s.2.small s.1 s.2.named
+not_large q text o (changes c) none = none c.old c.speaks.small c.target c.speaks.named
+
 -- the same, or both what a check says of types
 abbrev AreAsOne : List (List ℕ) → Look → Outcome → Outcome → Type 0
 AreAsOne words look a b = (a ≡ b) ⊎ (IsOfTypes words (Some look) a × IsOfTypes words (Some look) b)
@@ -133,14 +144,22 @@ module _ (words : List (List ℕ)) (look : Look) (fs : Files) (texts names : Lis
       let same : y ≡ x = cc in
       one_alone q x a b h (subst (λ (q : Request). Alone q x b) request (subst (λ (text : List ℕ). Alone r text b) same g))
 
+  large_or_single : (q r : Request) (y : List ℕ) (b : Outcome) → Asks words q → Asks words r → IsLarge q texts → IsAlone r → texts ≡ y ∷ [] → Alone r y b → ⊥
+  large_or_single q r y b change again (inl none) is are h = none (subst IsAlone (one_request words r q again change) is)
+  large_or_single q r y b change again (inr (x, alone, so, none)) is are h =
+      let request = one_request words q r change again in
+      let both : x ∷ [] ≡ y ∷ [] = sym so ∙ are in
+      let same : x ≡ y = cc in
+      not_large r y b h (subst (λ (q : Request). IsNotSmall q y) request (subst (λ (text : List ℕ). IsNotSmall q text) same none))
+
   one_done : (a b : Outcome) → Done words look texts a → Done words look texts b → AreAsOne words look a b
-  one_done a b (crowd q change none) (crowd r again not) = inl refl
-  one_done a b (crowd q change none) (single r y again is are h) = absurd (none (subst IsAlone (one_request words r q again change) is))
-  one_done a b (crowd q change none) (types gs check told) = absurd (change_or_check words q gs change check)
-  one_done a b (single q x change is are h) (crowd r again not) = absurd (not (subst IsAlone (one_request words q r change again) is))
+  one_done a b (large q change is told) (large r again so says) = inr (told, says)
+  one_done a b (large q change is told) (single r y again alone are h) = absurd (large_or_single q r y b change again is alone are h)
+  one_done a b (large q change is told) (types gs check says) = absurd (change_or_check words q gs change check)
+  one_done a b (single q x change alone are h) (large r again so says) = absurd (large_or_single r q x a again change so alone are h)
   one_done a b (single q x {o = v} change is are h) (single r y {o = w} again so were g) = inl (both_alone q r x y v w change again are were h g)
   one_done a b (single q x change is are h) (types gs check told) = absurd (change_or_check words q gs change check)
-  one_done a b (types gs check told) (crowd r again not) = absurd (change_or_check words r gs again check)
+  one_done a b (types gs check told) (large r again so says) = absurd (change_or_check words r gs again check)
   one_done a b (types gs check told) (single r y again is are h) = absurd (change_or_check words r gs again check)
   one_done a b (types gs check told) (types hs checks says) = inr (told, says)
 

@@ -106,7 +106,6 @@ module _ (q : Request) (text : List ℕ) where
       one_target text p a.small q.ty d c (subst (λ (p : Program). IsTypeNamed p q.ty d) (sym same) b.named) a.named
 
   against : (p : Program) (target : ℕ) (line : List ℕ) → Speaks q text p target → Refuses q text line → Against p target line
-  against p target line s (verdict.n2 none) = absurd (none p s.small target s.named)
   against p target line s (verdict.v1 {p = r} {target = c} s' none) = nowhere (subst (λ (p : Program). HasNoPlace q text p) (sym (same_program p r s.small s'.small)) none) refl
   against p target line s (verdict.v3 {p = r} {target = c} {x = x} s' named below) =
       let same = sym (same_program p r s.small s'.small) in
@@ -136,21 +135,16 @@ module _ (q : Request) (text : List ℕ) where
       let one = one_first text p small x target kind kind' n m first (subst (λ (z : Local). IsFirstUnmet p.unit (world_of p.unit) z target kind' m) same first') in
       e ∙ ap (λ (k : CKind). refused_at (kind_name k) q.file (place_at text n.span.from)) one.0 ∙ ap (λ (n : Node). refused_at (kind_name kind') q.file (place_at text n.span.from)) one.1 ∙ sym f
 
-  -- a refusal is N2, or speaks of a program
-  speaks_or_not : (line : List ℕ) → Refuses q text line → ((line ≡ refused (codes "N2")) × IsNotSmall q text) ⊎ ((p : Program) × (target : ℕ) × Speaks q text p target)
-  speaks_or_not line (verdict.n2 none) = inl (refl, none)
-  speaks_or_not line (verdict.v1 {p = p} {target = c} s none) = inr (p, c, s)
-  speaks_or_not line (verdict.v3 {p = p} {target = c} s named below) = inr (p, c, s)
-  speaks_or_not line (verdict.unmet {p = p} {target = c} kind n s named below first) = inr (p, c, s)
+  -- a refusal speaks of a program
+  pub refusal_speaks : (line : List ℕ) → Refuses q text line → (p : Program) × (target : ℕ) × Speaks q text p target
+  refusal_speaks line (verdict.v1 {p = p} {target = c} s none) = (p, c, s)
+  refusal_speaks line (verdict.v3 {p = p} {target = c} s named below) = (p, c, s)
+  refusal_speaks line (verdict.unmet {p = p} {target = c} kind n s named below first) = (p, c, s)
 
   pub one_refusal : (a b : List ℕ) → Refuses q text a → Refuses q text b → a ≡ b
-  one_refusal a b r r' = elim (speaks_or_not a r) [
-    | inl n ↦ elim (speaks_or_not b r') [
-      | inl m ↦ n.0 ∙ sym m.0
-      | inr s ↦ absurd (n.1 s.0 s.2.small s.1 s.2.named)
-    ]
-    | inr s ↦ one_line s.0 s.1 a b s.2.small (against s.0 s.1 a s.2 r) (against s.0 s.1 b s.2 r')
-  ]
+  one_refusal a b r r' =
+      let s = refusal_speaks a r in
+      one_line s.0 s.1 a b s.2.small (against s.0 s.1 a s.2 r) (against s.0 s.1 b s.2 r')
 
   pub not_both : (line made : List ℕ) (e : Edit) → Refuses q text line → Changes q text made e → ⊥
   not_both line made e r c = by_cause (against c.old c.target line c.speaks r)

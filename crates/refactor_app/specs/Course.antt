@@ -10,7 +10,10 @@ use Rattle.report_text.specs.Report.{usage, edit_report, missing, read_fault, wr
 use Rattle.refactor_app.specs.declared.status.Status.{Status}
 use Rattle.refactor_app.specs.declared.status.Status.TheVariants as s
 use Rattle.refactor_app.specs.Words.{Files, Request, inputs, out_name}
-use Rattle.refactor_app.specs.Verdicts.{Refuses, Changes}
+use Rattle.refactor_app.specs.declared.check.CheckAnswer.{CheckAnswer}
+use Rattle.refactor_app.specs.declared.check.CheckAnswer.TheVariants as answer
+use Rattle.refactor_app.specs.Checked.{large_line}
+use Rattle.refactor_app.specs.Verdicts.{Refuses, Changes, IsNotSmall}
 use Rattle.refactor_app.specs.Refusals.{AsksFew, Refusal}
 use Rattle.refactor_app.specs.Checking.{Passes}
 use Rattle.refactor_app.specs.Answers.{IsChange, Ends}
@@ -26,6 +29,11 @@ pub record Moment : Type 0 where
 
 abbrev pub EndsAt : Moment → Moment → List ℕ → Status → Status → Type 0
 EndsAt a b = Ends a.put b.put a.faults b.faults
+
+-- the answer of a check is put
+abbrev pub EndsWith : Option (List ℕ) → Option (List ℕ) → ℕ → ℕ → CheckAnswer → Status → Type 0
+EndsWith before after faults now (answer.Refused line) status = Ends before after faults now (string_bytes line) s.Refused status
+EndsWith before after faults now (answer.Passed report) status = Ends before after faults now (string_bytes report) s.Done status
 
 -- a change that is asked for of what the files held first
 abbrev pub IsAsked : List (List ℕ) → Moment → Request → List ℕ → Edit → Type 0
@@ -51,9 +59,10 @@ Finishes old new before after c ends status =
     (WhereTold old new (PutsAt (string_bytes c.name) c.text.items) × ends (string_bytes c.report) s.Done status)
     ⊎ (WhereTold old new (SameBut (string_bytes c.name)) × Rose before after × ends (string_bytes c.fault) s.WriteFault status)
 
--- how a request on a text goes on
-pub data Sequel (q : Request) (text : List ℕ) (a b : Moment) (status : Status) : Type 0 where
-  refuses : {line : List ℕ} → Refuses q text line → b.holds ≡ a.holds → EndsAt a b line s.Refused status → Sequel q text a b status
-  writes : {made : List ℕ} {e : Edit} → Changes q text made e → WhereTold a.holds b.holds (PutsAt (out_name q) made) → EndsAt a b (edit_report q.file e) s.Done status → Sequel q text a b status
-  fails : {made : List ℕ} {e : Edit} → Changes q text made e → WhereTold a.holds b.holds (SameBut (out_name q)) → Rose a.write_faults b.write_faults → EndsAt a b (write_fault (out_name q)) s.WriteFault status → Sequel q text a b status
-  no_memory : b.holds ≡ a.holds → b.put ≡ a.put → status ≡ s.NoMemory → Sequel q text a b status
+-- how a request on a text goes on, of which a check answered this
+pub data Sequel (q : Request) (text : List ℕ) (checked : CheckAnswer) (a b : Moment) (status : Status) : Type 0 where
+  refuses : {line : List ℕ} → Refuses q text line → b.holds ≡ a.holds → EndsAt a b line s.Refused status → Sequel q text checked a b status
+  large : IsNotSmall q text → b.holds ≡ a.holds → EndsAt a b (large_line checked) s.Refused status → Sequel q text checked a b status
+  writes : {made : List ℕ} {e : Edit} → Changes q text made e → WhereTold a.holds b.holds (PutsAt (out_name q) made) → EndsAt a b (edit_report q.file e) s.Done status → Sequel q text checked a b status
+  fails : {made : List ℕ} {e : Edit} → Changes q text made e → WhereTold a.holds b.holds (SameBut (out_name q)) → Rose a.write_faults b.write_faults → EndsAt a b (write_fault (out_name q)) s.WriteFault status → Sequel q text checked a b status
+  no_memory : b.holds ≡ a.holds → b.put ≡ a.put → status ≡ s.NoMemory → Sequel q text checked a b status

@@ -14,7 +14,7 @@ use Rattle.refactor_app.specs.declared.decide.Verdict.{Verdict}
 use Rattle.refactor_app.specs.declared.decide.Verdict.TheVariants as v
 use Rattle.refactor_app.specs.Words.{Request, out_name}
 use Rattle.refactor_app.specs.Program.{Program, IsSmall, IsTypeNamed}
-use Rattle.refactor_app.specs.Verdicts.{Refuses, Changes, asked}
+use Rattle.refactor_app.specs.Verdicts.{Refuses, Changes, IsNotSmall, asked}
 
 pub record IsChange (q : Request) (text : List ℕ) (c : Changed) : Type 0 where
   pub edit : Edit
@@ -26,11 +26,13 @@ pub record IsChange (q : Request) (text : List ℕ) (c : Changed) : Type 0 where
 abbrev pub Decides : Request → List ℕ → Verdict → Type 0
 Decides q text (v.Refused line) = Refuses q text (string_bytes line)
 Decides q text (v.Changed c) = IsChange q text c
+Decides q text v.General = IsNotSmall q text
 
 -- a refusal with this line
 abbrev pub IsLine : List ℕ → Verdict → Type 0
 IsLine line (v.Refused x) = string_bytes x ≡ line
 IsLine line (v.Changed c) = ⊥
+IsLine line v.General = ⊥
 
 -- the edit is the one that the request asks of a small program
 pub record IsPlanned (q : Request) (text : List ℕ) (e : SmallEdit) : Type 0 where

@@ -1,5 +1,5 @@
 -- What words and files come to, where no read, write or put fails; and that answers exclude each other.
-use Rattle.std.specs.Prelude.{◌≡◌, ℕ, List, Option, Some, slice_get, codes}
+use Rattle.std.specs.Prelude.{◌≡◌, ◌⊎◌, ℕ, List, Option, Some, slice_get, codes}
 use Rattle.java_tree.specs.Names.{built_in_names}
 use Rattle.java_tree.specs.Plain.{SourceUnit}
 use Rattle.tool_files.specs.Told.{Look}
@@ -7,10 +7,11 @@ use Rattle.command_words.specs.Rules.{IsLowest}
 use Rattle.edit_writer.specs.declared.edits.Edit.{Edit}
 use Rattle.source_files.specs.Held.{StopsAt, Missing}
 use Rattle.source_files.specs.Trees.{BreaksAt, NoTree}
-use Rattle.checker.specs.Checking.{IsIllTyped}
-use Rattle.refactor_app.specs.Words.{Files, Request, inputs, AsksCheck}
+use Rattle.java_tree.specs.declared.fault.Broken.{Broken}
+use Rattle.report_text.specs.Report.{refused}
+use Rattle.refactor_app.specs.Words.{Files, Request, inputs, Asks}
 use Rattle.refactor_app.specs.Declarations.{broken_line}
-use Rattle.refactor_app.specs.Refusals.{AsksFew, HasRead, HasDeclared, IsAt, type_rule, Refusal}
+use Rattle.refactor_app.specs.Refusals.{AsksFew, AsksGeneral, HasChecked, HasRead, HasDeclared, IsAt, IsCheckRefusal, IsLarge, Refusal}
 use Rattle.refactor_app.specs.Checking.{Passes}
 use Rattle.refactor_app.specs.Answers.{IsChange}
 
@@ -49,22 +50,32 @@ AreTreeless words old (Refused a) (Refused b) =
     (fs : Files) × (texts : List (List ℕ)) × (file : ℕ) × IsTreeless words old fs texts file a × IsTreeless words old fs texts file b
 AreTreeless words old _ _ = ⊥
 
--- the line names a broken rule on types
+-- the line names a broken rule on types or on flow
 pub record IsTypeRefusal (words : List (List ℕ)) (old : Option Look) (line : List ℕ) : Type 0 where
   pub fs : Files
   pub texts : List (List ℕ)
   pub names : List (List ℕ)
   pub units : List SourceUnit
-  pub node : ℕ
-  pub rule : ℕ
-  pub asks : AsksCheck words fs
+  pub rule : Broken
+  pub asks : AsksGeneral words fs texts
   pub declared : HasDeclared words old fs texts names units
-  pub broken : IsIllTyped declared.declared.program declared.declared.world node rule
-  pub is : line ≡ broken_line fs texts units (type_rule node rule)
+  pub broken : IsCheckRefusal declared.declared.program declared.declared.world rule
+  pub is : line ≡ broken_line fs texts units rule
 
--- what a check says of types
+-- the line is N2, of a program that breaks no rule
+pub record IsLargeRefusal (words : List (List ℕ)) (old : Option Look) (line : List ℕ) : Type 0 where
+  pub q : Request
+  pub texts : List (List ℕ)
+  pub names : List (List ℕ)
+  pub units : List SourceUnit
+  pub asks : Asks words q
+  pub large : IsLarge q texts
+  pub checked : HasChecked words old q.files texts names units
+  pub is : line ≡ refused (codes "N2")
+
+-- what is said where a check was made: its answer, or N2 behind it
 abbrev pub IsOfTypes : List (List ℕ) → Option Look → Outcome → Type 0
-IsOfTypes words old (Refused line) = IsTypeRefusal words old line
+IsOfTypes words old (Refused line) = IsTypeRefusal words old line ⊎ IsLargeRefusal words old line
 IsOfTypes words old (Judged report) = Passes words old report
 IsOfTypes words old _ = ⊥
 

@@ -1,5 +1,5 @@
 -- The first rule that stands against words and files.
-use Rattle.std.specs.Prelude.{◌≡◌, ◌<◌, ◌≤◌, ℕ, List, [], ◌∷◌, ◌++◌, length, Option, Some, slice_get, codes}
+use Rattle.std.specs.Prelude.{◌≡◌, ◌<◌, ◌≤◌, ◌⊎◌, ℕ, List, [], ◌∷◌, ◌++◌, length, Option, Some, slice_get, codes}
 use Rattle.std.specs.Fmt.{decimal}
 use Rattle.java_tree.specs.Names.{built_in_names}
 use Rattle.java_tree.specs.Plain.{SourceUnit}
@@ -10,9 +10,12 @@ use Rattle.edit_writer.specs.Places.{place_at}
 use Rattle.source_files.specs.Held.{AreHeld, StopsAt, TooLarge, TooMuch}
 use Rattle.source_files.specs.Trees.{AreTrees, BreaksAt, Fault, Lexical, Tokens, LeftOut, NoTree}
 use Rattle.report_text.specs.Report.{refused, refused_at}
-use Rattle.checker.specs.Checking.{IsIllTyped}
+use Rattle.class_world.specs.declared.world.World.{World}
+use Rattle.decl_table.specs.Program.{Program}
+use Rattle.unchecked_ops.specs.declared.program.Operation.{Operation}
+use Rattle.checker.specs.Checking.{IsIllFlowing, IsIllTyped, IsWellTyped}
 use Rattle.refactor_app.specs.Words.{Files, Request, inputs, IsAlone, Asks, AsksCheck, Uses, AskOther}
-use Rattle.refactor_app.specs.Verdicts.{Refuses}
+use Rattle.refactor_app.specs.Verdicts.{IsNotSmall, Refuses}
 use Rattle.refactor_app.specs.Declarations.{AreDeclared, IsBroken, broken_line}
 
 abbrev pub most_files : ℕ
@@ -52,12 +55,34 @@ Tells fs texts k Tokens line = line ≡ refused (codes "L4")
 Tells fs texts k (LeftOut rule at) line = IsAt (codes "S" ++ decimal rule) fs texts k at line
 Tells fs texts k (NoTree at) line = IsAt (codes "G1") fs texts k at line
 
--- a rule on types, at a node
+-- a rule on types, at a node, and one on flow
 abbrev pub type_rule : (node rule : ℕ) → Broken
 type_rule node rule = record { family = family.T; number = rule; node = Some node }
 
--- The rules in their order: N1, L1, the sizes of the files, their texts, the declarations of the program, and then what stands against a check, or against a
--- change of one file.
+abbrev pub flow_rule : (node rule : ℕ) → Broken
+flow_rule node rule = record { family = family.F; number = rule; node = Some node }
+
+-- the first rule that a program breaks whose declarations break none: one on types, or else one on flow
+pub data IsCheckRefusal (p : Program) (w : World) : Broken → Type 0 where
+  types : (node rule : ℕ) → IsIllTyped p w node rule → IsCheckRefusal p w (type_rule node rule)
+  flow : (node rule : ℕ) → IsIllFlowing p w node rule → IsCheckRefusal p w (flow_rule node rule)
+
+-- a change that no small program answers: of several files, or of a text that is no small program with the type
+abbrev pub IsLarge : Request → (texts : List (List ℕ)) → Type 0
+IsLarge q texts = (IsAlone q → ⊥) ⊎ ((text : List ℕ) × IsAlone q × (texts ≡ text ∷ []) × IsNotSmall q text)
+
+-- the words ask for a check, or for such a change
+abbrev pub AsksGeneral : (words : List (List ℕ)) → Files → (texts : List (List ℕ)) → Type 0
+AsksGeneral words fs texts = AsksCheck words fs ⊎ ((q : Request) × (q.files ≡ fs) × Asks words q × IsLarge q texts)
+
+-- files whose declarations break no rule, and that break none on types or flow
+pub record HasChecked (words : List (List ℕ)) (look : Option Look) (fs : Files) (texts : List (List ℕ)) (names : List (List ℕ)) (units : List SourceUnit) : Type 0 where
+  pub declared : HasDeclared words look fs texts names units
+  pub operations : List Operation
+  pub typed : IsWellTyped declared.declared.program declared.declared.world operations
+
+-- The rules in their order: N1, L1, the sizes of the files, their texts, the declarations of the program, and then what stands against a change of a small program,
+-- or the rules on types and on flow, and N2.
 pub data Refusal (words : List (List ℕ)) (look : Option Look) : List ℕ → Type 0 where
   n1 : AskOther words → Refusal words look (refused (codes "N1"))
   l1 : (fs : Files) → Uses words fs → most_files < length (inputs fs) → Refusal words look (refused (codes "L1"))
@@ -67,9 +92,9 @@ pub data Refusal (words : List (List ℕ)) (look : Option Look) : List ℕ → T
       → Tells fs texts k fault line → Refusal words look line
   declared : (fs : Files) (texts names : List (List ℕ)) (units : List SourceUnit) (b : Broken) → HasParsed words look fs texts names units → IsBroken (length fs.users) names units b
       → Refusal words look (broken_line fs texts units b)
-  typed : (fs : Files) (texts names : List (List ℕ)) (units : List SourceUnit) (node rule : ℕ) → AsksCheck words fs → (h : HasDeclared words look fs texts names units)
-      → IsIllTyped h.declared.program h.declared.world node rule → Refusal words look (broken_line fs texts units (type_rule node rule))
-  n2 : (q : Request) (texts names : List (List ℕ)) (units : List SourceUnit) → Asks words q → HasDeclared words look q.files texts names units → (IsAlone q → ⊥)
+  checked : (fs : Files) (texts names : List (List ℕ)) (units : List SourceUnit) (b : Broken) → AsksGeneral words fs texts → (h : HasDeclared words look fs texts names units)
+      → IsCheckRefusal h.declared.program h.declared.world b → Refusal words look (broken_line fs texts units b)
+  n2 : (q : Request) (texts names : List (List ℕ)) (units : List SourceUnit) → Asks words q → IsLarge q texts → HasChecked words look q.files texts names units
       → Refusal words look (refused (codes "N2"))
   refuses : (q : Request) (text : List ℕ) (names : List (List ℕ)) (u : SourceUnit) {line : List ℕ} → Asks words q → HasDeclared words look q.files (text ∷ []) names (u ∷ [])
       → IsAlone q → Refuses q text line → Refusal words look line

@@ -19,7 +19,7 @@ use Rattle.report_text.specs.Report.{refused, refused_at}
 abbrev pub asked : Request → Place
 asked q = record { line = q.line; col = q.col }
 
--- N2: the text is no small program, or the word is no type of it
+-- the text is no small program, or the word is no type of it
 abbrev pub IsNotSmall : Request → List ℕ → Type 0
 IsNotSmall q text = ((p : Program) → IsSmall text p → (c : ℕ) → IsTypeNamed p q.ty c → ⊥)
 
@@ -42,9 +42,8 @@ abbrev pub kind_name : CKind → List ℕ
 kind_name Assign = codes "ASSIGN"
 kind_name Member = codes "MEMBER"
 
--- The first rule or constraint that stands against the request, with its line.
+-- The first rule or constraint that stands against a request on a small program, with its line.
 pub data Refuses (q : Request) (text : List ℕ) : List ℕ → Type 0 where
-  n2 : IsNotSmall q text → Refuses q text (refused (codes "N2"))
   v1 : {p : Program} {target : ℕ} → Speaks q text p target → HasNoPlace q text p → Refuses q text (refused (codes "V1"))
   v3 : {p : Program} {target : ℕ} {x : Local} → Speaks q text p target → Names q text p x → (IsBelow (world_of p.unit) x.ty target → ⊥)
       → Refuses q text (refused_at (codes "V3") q.file (asked q))

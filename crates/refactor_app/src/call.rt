@@ -15,8 +15,9 @@ ghost use Rattle.refactor_app.specs.Asked.{AsksTask, HasType, request_of, task_f
 ghost use Rattle.refactor_app.specs.Answers as answers;
 ghost use Rattle.refactor_app.specs.Answers.{IsDone, IsRefused, IsUsage, IsWriteFault, IsOutFault, Ends};
 ghost use Rattle.refactor_app.specs.Small.{HasUnit};
-ghost use Rattle.refactor_app.specs.Declarations.{AreDeclared};
 ghost use Rattle.refactor_app.specs.Judged.{AreDeclaredAs};
+ghost use Rattle.refactor_app.specs.Checked.{AreAnswered, large_line};
+ghost use Rattle.refactor_app.specs.Course.{EndsWith};
 ghost use Rattle.refactor_app.specs.Refusals.{AsksFew};
 ghost use Rattle.refactor_app.specs.Course.{Moment, Course, Finishes, Sequel};
 ghost use Rattle.refactor_app.specs.Stops.{IsNamed, Stops};
@@ -70,13 +71,34 @@ fn finish<F: Files, K: Sink>(files: &mut F, out: &mut K, change: &Changed) -> St
     }
 }
 
-// What becomes of a request on a text with this tree.
+// Puts the answer of a check.
+fn put_checked<K: Sink>(out: &mut K, checked: &CheckAnswer) -> Status
+    ensures { EndsWith (K.written out.old) (K.written out.new) (K.faults out.old) (K.faults out.new) checked.now result }
+{
+    match checked {
+        CheckAnswer::Refused(line) => put(out, line.as_bytes(), Status::Refused),
+        CheckAnswer::Passed(report) => put(out, report.as_bytes(), Status::Done),
+    }
+}
+
+// Puts what stands against a change that no small program answers.
+fn put_large<K: Sink>(out: &mut K, checked: &CheckAnswer) -> Status
+    ensures { Ends (K.written out.old) (K.written out.new) (K.faults out.old) (K.faults out.new) (large_line checked.now) Status.Refused result }
+{
+    match checked {
+        CheckAnswer::Refused(line) => put(out, line.as_bytes(), Status::Refused),
+        CheckAnswer::Passed(_) => put(out, b"refused N2 -\n", Status::Refused),
+    }
+}
+
+// What becomes of a request on a text with this tree, of which a check answered this.
 fn answer<F: Files, K: Sink>(
     alloc: Global,
     q: &Asked<'_>,
     text: &[u8],
     names: Names,
     unit: SourceUnit,
+    checked: &CheckAnswer,
     files: &mut F,
     out: &mut K,
 ) -> Status
@@ -85,17 +107,18 @@ fn answer<F: Files, K: Sink>(
     requires unit { HasUnit text.now names unit }
     ensures { let a : Moment = record { holds = F.holds files.old; misses = F.misses files.old; read_faults = F.read_faults files.old; write_faults = F.write_faults files.old; put = K.written out.old; faults = K.faults out.old } in
         let b : Moment = record { holds = F.holds files.new; misses = F.misses files.new; read_faults = F.read_faults files.new; write_faults = F.write_faults files.new; put = K.written out.new; faults = K.faults out.new } in
-        Sequel (request_of q.now) text.now a b result }
+        Sequel (request_of q.now) text.now checked.now a b result }
 {
     match decide(alloc, q, text, names, unit) {
         Ok(Verdict::Refused(line)) => put(out, line.as_bytes(), Status::Refused),
         Ok(Verdict::Changed(change)) => finish(files, out, &change),
+        Ok(Verdict::General) => put_large(out, checked),
         Err(_) => Status::NoMemory,
     }
 }
 
-// What becomes of a change of files with these texts and trees, whose declarations break no rule. A small program is one file. The first `count` names are
-// those of the texts.
+// What becomes of a change of files with these texts and trees, whose declarations break no rule and say this, and of which a check answered this. A small program
+// is one file. The first `count` names are those of the texts.
 fn on_change<F: Files, K: Sink>(
     alloc: Global,
     q: &Asked<'_>,
@@ -103,6 +126,8 @@ fn on_change<F: Files, K: Sink>(
     table: &Names,
     count: u32,
     units: Items<SourceUnit>,
+    declared: &Declared,
+    checked: &CheckAnswer,
     files: &mut F,
     out: &mut K,
 ) -> Status
@@ -112,19 +137,23 @@ fn on_change<F: Files, K: Sink>(
     requires within { count ≤ length table.now }
     requires built_in { 19 ≤ count }
     requires trees { AreTrees built_in_names 0 0 texts.now (map unit_plain units) (take count table.now) }
-    requires declared { AreDeclared (length (request_of q.now).files.users) (take count table.now) (map unit_plain units) }
+    requires declared { AreDeclaredAs (length (request_of q.now).files.users) (take count table.now) (map unit_plain units) declared.now }
+    requires checked { AreAnswered (request_of q.now).files texts.now (take count table.now) (map unit_plain units) declared.now checked.now }
     ensures { let a : Moment = record { holds = F.holds files.old; misses = F.misses files.old; read_faults = F.read_faults files.old; write_faults = F.write_faults files.old; put = K.written out.old; faults = K.faults out.old } in
         let b : Moment = record { holds = F.holds files.new; misses = F.misses files.new; read_faults = F.read_faults files.new; write_faults = F.write_faults files.new; put = K.written out.new; faults = K.faults out.new } in
         (words : List (List ℕ)) → Asks words (request_of q.now) → AsksFew words (request_of q.now).files → Course words a b result }
 {
     if texts.len() != 1 {
-        return put(out, b"refused N2 -\n", Status::Refused);
+        return put_large(out, checked);
     }
     let Ok(names) = first_of(alloc, table, count) else {
         return Status::NoMemory;
     };
     match units.into_vec().pop() {
-        Some(unit) => answer(alloc, q, texts[0].as_slice(), names, unit, files, out),
+        Some(unit) => {
+            let text = texts[0].as_slice();
+            answer(alloc, q, text, names, unit, checked, files, out)
+        }
         None => Status::NoMemory,
     }
 }
@@ -156,17 +185,23 @@ fn on_declared<F: Files, K: Sink>(
         let b : Moment = record { holds = F.holds files.new; misses = F.misses files.new; read_faults = F.read_faults files.new; write_faults = F.write_faults files.new; put = K.written out.new; faults = K.faults out.new } in
         (words : List (List ℕ)) → AsksTask words task.now → AsksFew words (task_files task.now) → Course words a b result }
 {
+    let users = task.inputs().users.len();
+    let Ok(checked) = check(
+        alloc,
+        file_names,
+        texts,
+        units.as_slice(),
+        users,
+        table,
+        declared,
+    ) else {
+        return Status::NoMemory;
+    };
     match task {
-        Task::Change(q) => on_change(alloc, q, texts, table, count, units, files, out),
-        Task::Check(inputs) => {
-            let users = inputs.users.len();
-            let units = units.as_slice();
-            match check(alloc, file_names, texts, units, users, table, declared) {
-                Ok(CheckAnswer::Refused(line)) => put(out, line.as_bytes(), Status::Refused),
-                Ok(CheckAnswer::Passed(report)) => put(out, report.as_bytes(), Status::Done),
-                Err(_) => Status::NoMemory,
-            }
-        }
+        Task::Change(q) => on_change(
+            alloc, q, texts, table, count, units, declared, &checked, files, out,
+        ),
+        Task::Check(_) => put_checked(out, &checked),
     }
 }
 

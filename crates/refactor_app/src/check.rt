@@ -1,12 +1,14 @@
 //! What becomes of a check.
 
-ghost use Rattle.std.specs.Prelude.{◌≡◌, ◌≤◌, length, map, take, drop, IfOk};
+ghost use Rattle.std.specs.Prelude.{◌≡◌, ◌≤◌, length, map, take, drop, Err, IfOk};
 ghost use Rattle.std.specs.String.{string_bytes};
 ghost use Rattle.java_tree.specs.Names.{AreDistinct};
 ghost use Rattle.java_tree.specs.View.{unit_plain};
+ghost use Rattle.class_world.specs.declared.world.World.{World};
 ghost use Rattle.class_world.specs.Sound.{IsSound};
 ghost use Rattle.decl_table.specs.Judged.{IsProgram};
 ghost use Rattle.decl_table.specs.Program.{Program};
+ghost use Rattle.checker.specs.Checking.{IsCheckedBy};
 ghost use Rattle.member_table.specs.Table.{HoldsMembers};
 ghost use Rattle.source_files.specs.Held.{AreSmall};
 ghost use Rattle.refactor_app.specs.Checked.{Answers};
@@ -15,8 +17,7 @@ ghost use Rattle.refactor_app.specs.Words.{Files, inputs};
 
 use crate::declarations::Declared;
 use crate::lines::{broken_line, check_report};
-use checked::Stop;
-use checker::check_files;
+use checker::{CheckFault, check_files};
 use java_tree::tree::SourceUnit;
 use java_tree::{Broken, Family, Items, Names, NoMemory};
 use std::alloc::Global;
@@ -37,6 +38,56 @@ fn type_rule(node: u32, rule: u8) -> Broken
         family: Family::T,
         number: rule,
         node: Some(node),
+    }
+}
+
+// A rule on flow at a node.
+fn flow_rule(node: u32, rule: u8) -> Broken
+    ensures { result ≡ spec.flow_rule node rule }
+{
+    Broken {
+        family: Family::F,
+        number: rule,
+        node: Some(node),
+    }
+}
+
+// The refusal of a rule that a check names.
+fn refused(
+    alloc: Global,
+    file_names: &[String],
+    texts: &[Items<u8>],
+    units: &[SourceUnit],
+    rule: Broken,
+) -> Result<CheckAnswer, NoMemory>
+    requires small { AreSmall texts.now }
+    ensures { (p : Program) (w : World) (fs : Files) → inputs fs ≡ map string_bytes file_names.now → spec.IsCheckRefusal p w rule
+        → IfOk result (Answers fs texts.now (map unit_plain units.now) p w) }
+{
+    let line = broken_line(alloc, file_names, texts, units, rule)?;
+    Ok(CheckAnswer::Refused(line))
+}
+
+// The refusal of what stops a check.
+fn stopped(
+    alloc: Global,
+    file_names: &[String],
+    texts: &[Items<u8>],
+    units: &[SourceUnit],
+    fault: CheckFault,
+) -> Result<CheckAnswer, NoMemory>
+    requires small { AreSmall texts.now }
+    ensures { (p : Program) (w : World) (fs : Files) → inputs fs ≡ map string_bytes file_names.now → IsCheckedBy p w (Err fault)
+        → IfOk result (Answers fs texts.now (map unit_plain units.now) p w) }
+{
+    match fault {
+        CheckFault::Type { node, rule } => {
+            refused(alloc, file_names, texts, units, type_rule(node, rule))
+        }
+        CheckFault::Flow { node, rule } => {
+            refused(alloc, file_names, texts, units, flow_rule(node, rule))
+        }
+        CheckFault::NoMemory => Err(NoMemory),
     }
 }
 
@@ -62,14 +113,10 @@ pub fn check(
 {
     let (user, lib) = units.split_at(users);
     match check_files(alloc, &declared.world, &declared.members, table, user, lib) {
-        Ok(nodes) => {
-            let report = check_report(alloc, file_names, texts, units, nodes.as_slice())?;
+        Ok(operations) => {
+            let report = check_report(alloc, file_names, texts, operations.as_slice())?;
             Ok(CheckAnswer::Passed(report))
         }
-        Err(Stop::Broken { node, rule }) => {
-            let line = broken_line(alloc, file_names, texts, units, type_rule(node, rule))?;
-            Ok(CheckAnswer::Refused(line))
-        }
-        Err(Stop::NoMemory) => Err(NoMemory),
+        Err(fault) => stopped(alloc, file_names, texts, units, fault),
     }
 }

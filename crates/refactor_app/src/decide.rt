@@ -39,6 +39,8 @@ pub enum Verdict {
     /// The line that names what stands against the request.
     Refused(String),
     Changed(Changed),
+    /// The text is no small program that has the type.
+    General,
 }
 
 // The number of the type that a word names: Object, or a class of the file that is not main's.
@@ -188,10 +190,10 @@ pub fn decide(
     ensures { IfOk result (Decides (request_of q.now) text.now) }
 {
     let Some(small) = program(alloc, text, names, unit)? else {
-        return refused(alloc, "refused N2 -\n");
+        return Ok(Verdict::General);
     };
     match target_of(&small, q.ty) {
         Some(target) => judge(alloc, q, text, &small, target),
-        None => refused(alloc, "refused N2 -\n"),
+        None => Ok(Verdict::General),
     }
 }

@@ -19,6 +19,7 @@ use node_places::{NodePlace, first_byte};
 use report_text::{checked_files, place_text, refused_at, refused_place, rule_name, unchecked_at};
 use source_files::TreeStop;
 use std::alloc::Global;
+use unchecked_ops::Operation;
 
 // A refusal at a byte of a file.
 fn refused_in(
@@ -152,18 +153,27 @@ pub fn broken_line(
     refused_place(alloc, rule.as_str(), place.as_str())
 }
 
+// The first byte of an operation.
+fn operation_place(operation: Operation) -> NodePlace
+    ensures { result ≡ checking.operation_place operation }
+{
+    NodePlace {
+        file: operation.file as usize,
+        at: operation.node.span.from,
+    }
+}
+
 // The line of an unchecked operation.
 fn unchecked_line(
     alloc: Global,
     names: &[String],
     texts: &[Items<u8>],
-    units: &[SourceUnit],
-    node: u32,
+    operation: Operation,
 ) -> Result<String, NoMemory>
     requires small { AreSmall texts.now }
-    ensures { (fs : Files) → inputs fs ≡ map string_bytes names.now → IfOk result (λ r. string_bytes r ≡ checking.unchecked_line fs texts.now (map unit_plain units.now) node) }
+    ensures { (fs : Files) → inputs fs ≡ map string_bytes names.now → IfOk result (λ r. string_bytes r ≡ checking.unchecked_line fs texts.now operation) }
 {
-    let place = node_name(alloc, names, texts, units, Some(node))?;
+    let place = place_name(alloc, names, texts, operation_place(operation))?;
     unchecked_at(alloc, place.as_str())
 }
 
@@ -172,16 +182,14 @@ fn unchecked_lines(
     alloc: Global,
     names: &[String],
     texts: &[Items<u8>],
-    units: &[SourceUnit],
-    nodes: &[u32],
+    operations: &[Operation],
 ) -> Result<String, NoMemory>
     requires small { AreSmall texts.now }
-    ensures { (fs : Files) → inputs fs ≡ map string_bytes names.now
-        → IfOk result (λ r. string_bytes r ≡ flat_map (checking.unchecked_line fs texts.now (map unit_plain units.now)) nodes.now) }
+    ensures { (fs : Files) → inputs fs ≡ map string_bytes names.now → IfOk result (λ r. string_bytes r ≡ flat_map (checking.unchecked_line fs texts.now) operations.now) }
 {
     let mut lines = String::new(alloc);
-    for node in nodes {
-        let line = unchecked_line(alloc, names, texts, units, *node)?;
+    for operation in operations {
+        let line = unchecked_line(alloc, names, texts, *operation)?;
         lines.push_str(line.as_str())?;
     }
     Ok(lines)
@@ -192,13 +200,12 @@ pub fn check_report(
     alloc: Global,
     names: &[String],
     texts: &[Items<u8>],
-    units: &[SourceUnit],
-    nodes: &[u32],
+    operations: &[Operation],
 ) -> Result<String, NoMemory>
     requires small { AreSmall texts.now }
-    ensures { (fs : Files) → inputs fs ≡ map string_bytes names.now → IfOk result (λ r. string_bytes r ≡ checking.check_report fs texts.now (map unit_plain units.now) nodes.now) }
+    ensures { (fs : Files) → inputs fs ≡ map string_bytes names.now → IfOk result (λ r. string_bytes r ≡ checking.check_report fs texts.now operations.now) }
 {
-    let mut report = unchecked_lines(alloc, names, texts, units, nodes)?;
+    let mut report = unchecked_lines(alloc, names, texts, operations)?;
     let last = checked_files(alloc, names.len())?;
     report.push_str(last.as_str())?;
     Ok(report)

@@ -1,13 +1,17 @@
 -- The checked exceptions that a body can throw (JLS 3rd edition, 11.2), a clause a form: rules F6 to F10.
-use Rattle.std.specs.Prelude.{◌↔◌, IsTrue, ℕ, Bool, true, false, ◌&&◌, ◌||◌, not, List, [], ◌∷◌, ◌++◌, filter, Option, Some, None, ◌==◌, if◌then◌else◌}
+use Rattle.std.specs.Prelude.{◌↔◌, IsTrue, ℕ, Bool, true, false, ◌&&◌, ◌||◌, not, List, [], ◌∷◌, ◌++◌, filter, Option, Some, None, ◌==◌, if◌then◌else◌, ◌≡◌, Result, IfOk, OnOk, map}
 use Rattle.std.specs.List.{list_any}
+use Rattle.std.specs.Option.{option_map}
 use Rattle.java_tree.specs.declared.tree.Node.{Node}
 use Rattle.class_world.specs.declared.world.World.{World}
 use Rattle.class_world.specs.declared.world.MethodInfo.{MethodInfo}
 use Rattle.class_world.specs.Subtypes.{Subtype}
 use Rattle.class_world.specs.declared.world.JavaType.{JavaType}
 use Rattle.class_world.specs.declared.world.JavaType.TheVariants as ty
+use Rattle.java_core.specs.declared.stmt.CoreCatch.{CoreCatch}
+use Rattle.java_core.specs.declared.stmt.CoreStmt.{CoreStmt}
 use Rattle.java_core.specs.Plain as p
+use Rattle.java_core.specs.View.{catch_plain, catch_row, stmt_maybe, stmt_plain}
 use Rattle.java_core.specs.declared.program.Implied.{Implied}
 use Rattle.type_kinds.specs.Kinds.{class_number, ty_of}
 use Rattle.type_kinds.specs.OfWorld.{AreBoth}
@@ -20,6 +24,15 @@ use Rattle.thrown_exceptions.specs.declared.state.State.{State}
 -- which types of a world are below which
 abbrev pub IsOrder : World → (JavaType → JavaType → Bool) → Type 0
 IsOrder w below = (s t : JavaType) → IsTrue (below s t) ↔ (AreBoth w s t × Subtype w s t)
+
+-- ---- what is said of a call, whatever tells the order
+
+-- what it gives, or makes of the state; nothing is said where memory ran out
+abbrev pub Gives : {A E : Type 0} → World → Result A E → ((JavaType → JavaType → Bool) → A) → Type 0
+Gives w r made = (below : JavaType → JavaType → Bool) → IsOrder w below → IfOk r (λ x. x ≡ made below)
+
+abbrev pub Makes : {A E : Type 0} → World → Result A E → (new : State) → ((JavaType → JavaType → Bool) → State) → Type 0
+Makes w r new made = (below : JavaType → JavaType → Bool) → IsOrder w below → OnOk r (new ≡ made below)
 
 -- ---- states
 
@@ -238,6 +251,13 @@ module _ (w : World) (below : JavaType → JavaType → Bool) where
   -- the catches and the finally block of a try whose block raised what the state has
   abbrev pub tried : p.Catches → p.MaybeStmt → State → State
   tried cs last s = finished last (catches cs (passed below cs s))
+
+  -- the parts of a try, and the whole of one
+  abbrev pub try_parts : CoreStmt → List CoreCatch → Option CoreStmt → State → State
+  try_parts a cs last s = tried (catch_row (map catch_plain cs)) (stmt_maybe (option_map stmt_plain last)) (walk (stmt_plain a) s)
+
+  abbrev pub whole_try : CoreStmt → List CoreCatch → Option CoreStmt → State → State
+  whole_try a cs last s = after s.raised (try_parts a cs last (with_raised [] s))
 
   -- ---- members
 

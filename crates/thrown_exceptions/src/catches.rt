@@ -91,7 +91,7 @@ fn all_judged(
     before: &mut Items<u32>,
 ) -> Result<Option<Flaw>, NoMemory>
     requires { IsSound w.now }
-    ensures judged { (below : JavaType → JavaType → Bool) → IsOrder w.now below → IfOk result (λ r. r ≡ spec.all_judged below before.old raised.now (catch_row (map catch_plain catches.now)) first) }
+    ensures judged { spec.Gives w.now result (λ below. spec.all_judged below before.old raised.now (catch_row (map catch_plain catches.now)) first) }
     ensures caught { OnOk result (before.new ≡ before.old ++ spec.caught (catch_row (map catch_plain catches.now))) }
 {
     let mut first = first;
@@ -119,7 +119,7 @@ fn uncaught(
     raised: &[Raised],
 ) -> Result<Items<Raised>, NoMemory>
     requires { IsSound w.now }
-    ensures { (below : JavaType → JavaType → Bool) → IsOrder w.now below → IfOk result (λ r. r ≡ spec.uncaught below classes.now raised.now) }
+    ensures { spec.Gives w.now result (λ below. spec.uncaught below classes.now raised.now) }
 {
     let mut left = Items::new(alloc);
     for exception in raised {
@@ -138,7 +138,7 @@ pub(crate) fn passed(
     state: &mut State,
 ) -> Result<(), NoMemory>
     requires { IsSound w.now }
-    ensures { (below : JavaType → JavaType → Bool) → IsOrder w.now below → OnOk result (state.new ≡ spec.passed below (catch_row (map catch_plain catches.now)) state.old) }
+    ensures { spec.Makes w.now result state.new (λ below. spec.passed below (catch_row (map catch_plain catches.now)) state.old) }
 {
     let mut caught = Items::new(alloc);
     let raised = state.raised.as_slice();

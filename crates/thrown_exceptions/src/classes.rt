@@ -128,7 +128,7 @@ fn raise_class(
     state: &mut State,
 ) -> Result<(), NoMemory>
     requires { IsSound w.now }
-    ensures { (below : JavaType → JavaType → Bool) → IsOrder w.now below → OnOk result (state.new ≡ spec.raise node (spec.checked_of below (Some class)) state.old) }
+    ensures { spec.Makes w.now result state.new (λ below. spec.raise node (spec.checked_of below (Some class)) state.old) }
 {
     if is_checked(alloc, w, class) {
         state.raised.push(Raised { node, class })?;
@@ -145,7 +145,7 @@ pub(crate) fn raise(
     state: &mut State,
 ) -> Result<(), NoMemory>
     requires { IsSound w.now }
-    ensures { (below : JavaType → JavaType → Bool) → IsOrder w.now below → OnOk result (state.new ≡ spec.raise node (spec.checked_of below (number_of ty.now)) state.old) }
+    ensures { spec.Makes w.now result state.new (λ below. spec.raise node (spec.checked_of below (number_of ty.now)) state.old) }
 {
     match class_number(ty) {
         None => Ok(()),
@@ -161,7 +161,7 @@ fn raise_all(
     state: &mut State,
 ) -> Result<(), NoMemory>
     requires { IsSound w.now }
-    ensures { (below : JavaType → JavaType → Bool) → IsOrder w.now below → OnOk result (state.new ≡ spec.raise node (spec.checked_in below types.now) state.old) }
+    ensures { spec.Makes w.now result state.new (λ below. spec.raise node (spec.checked_in below types.now) state.old) }
 {
     for ty in types {
         raise(alloc, w, node, ty, state)?;
@@ -178,7 +178,7 @@ pub(crate) fn called(
     state: &mut State,
 ) -> Result<(), NoMemory>
     requires { IsSound w.now }
-    ensures { (below : JavaType → JavaType → Bool) → IsOrder w.now below → OnOk result (state.new ≡ spec.called w.now below node method state.old) }
+    ensures { spec.Makes w.now result state.new (λ below. spec.called w.now below node method state.old) }
 {
     raise_all(alloc, w, node.id, throws_of(w, method), state)
 }

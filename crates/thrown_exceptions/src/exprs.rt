@@ -24,7 +24,7 @@ pub(crate) fn value(
     state: &mut State,
 ) -> Result<(), NoMemory>
     requires { IsSound w.now }
-    ensures { (below : JavaType → JavaType → Bool) → IsOrder w.now below → OnOk result (state.new ≡ spec.value w.now below (plain e.now) state.old) }
+    ensures { spec.Makes w.now result state.new (λ below. spec.value w.now below (plain e.now) state.old) }
 {
     match &e.form {
         CoreForm::Paren(of) => value(alloc, w, of.get(), state),
@@ -117,7 +117,7 @@ fn maybe_value(
     state: &mut State,
 ) -> Result<(), NoMemory>
     requires { IsSound w.now }
-    ensures { (below : JavaType → JavaType → Bool) → IsOrder w.now below → OnOk result (state.new ≡ spec.maybe_value w.now below (maybe (option_map plain of.now)) state.old) }
+    ensures { spec.Makes w.now result state.new (λ below. spec.maybe_value w.now below (maybe (option_map plain of.now)) state.old) }
 {
     match of {
         None => Ok(()),
@@ -133,7 +133,7 @@ pub(crate) fn values(
     state: &mut State,
 ) -> Result<(), NoMemory>
     requires { IsSound w.now }
-    ensures { (below : JavaType → JavaType → Bool) → IsOrder w.now below → OnOk result (state.new ≡ spec.values w.now below (plains xs.now) state.old) }
+    ensures { spec.Makes w.now result state.new (λ below. spec.values w.now below (plains xs.now) state.old) }
 {
     for x in xs {
         value(alloc, w, x, state)?;
@@ -149,7 +149,7 @@ pub(crate) fn optional(
     state: &mut State,
 ) -> Result<(), NoMemory>
     requires { IsSound w.now }
-    ensures { (below : JavaType → JavaType → Bool) → IsOrder w.now below → OnOk result (state.new ≡ spec.optional w.now below (option_map plain x.now) state.old) }
+    ensures { spec.Makes w.now result state.new (λ below. spec.optional w.now below (option_map plain x.now) state.old) }
 {
     match x {
         None => Ok(()),
@@ -165,7 +165,7 @@ pub(crate) fn locals(
     state: &mut State,
 ) -> Result<(), NoMemory>
     requires { IsSound w.now }
-    ensures { (below : JavaType → JavaType → Bool) → IsOrder w.now below → OnOk result (state.new ≡ spec.vars w.now below (map var_plain vars.now) state.old) }
+    ensures { spec.Makes w.now result state.new (λ below. spec.vars w.now below (map var_plain vars.now) state.old) }
 {
     for var in vars {
         optional(alloc, w, &var.init, state)?;

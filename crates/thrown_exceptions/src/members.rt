@@ -48,7 +48,7 @@ fn in_body(
     first: Option<Flaw>,
 ) -> Result<Option<Flaw>, NoMemory>
     requires { IsSound w.now }
-    ensures { (below : JavaType → JavaType → Bool) → IsOrder w.now below → IfOk result (λ r. r ≡ spec.in_body w.now below throws.now (option_map stmt_plain body.now) first) }
+    ensures { spec.Gives w.now result (λ below. spec.in_body w.now below throws.now (option_map stmt_plain body.now) first) }
 {
     match body {
         None => Ok(first),
@@ -87,7 +87,7 @@ fn in_method(
     first: Option<Flaw>,
 ) -> Result<Option<Flaw>, NoMemory>
     requires { IsSound w.now }
-    ensures { (below : JavaType → JavaType → Bool) → IsOrder w.now below → IfOk result (λ r. r ≡ spec.in_method w.now below (method_plain method.now) (spec.classes_in (spec.throws_of (method_at w.now method.now.method))) first) }
+    ensures { spec.Gives w.now result (λ below. spec.in_method w.now below (method_plain method.now) (spec.classes_in (spec.throws_of (method_at w.now method.now.method))) first) }
 {
     let throws = classes_in(alloc, throws_of(w, method.method))?;
     let first = in_implied(alloc, w, throws.as_slice(), &method.implied, first);
@@ -101,7 +101,7 @@ fn in_field(
     first: Option<Flaw>,
 ) -> Result<Option<Flaw>, NoMemory>
     requires { IsSound w.now }
-    ensures { (below : JavaType → JavaType → Bool) → IsOrder w.now below → IfOk result (λ r. r ≡ spec.in_field w.now below (field_plain field.now) first) }
+    ensures { spec.Gives w.now result (λ below. spec.in_field w.now below (field_plain field.now) first) }
 {
     let mut state = start(alloc, first);
     optional(alloc, w, &field.init, &mut state)?;
@@ -115,7 +115,7 @@ fn in_fields(
     first: Option<Flaw>,
 ) -> Result<Option<Flaw>, NoMemory>
     requires { IsSound w.now }
-    ensures { (below : JavaType → JavaType → Bool) → IsOrder w.now below → IfOk result (λ r. r ≡ spec.in_fields w.now below (map field_plain fields.now) first) }
+    ensures { spec.Gives w.now result (λ below. spec.in_fields w.now below (map field_plain fields.now) first) }
 {
     let mut first = first;
     for field in fields {
@@ -131,7 +131,7 @@ fn in_member(
     first: Option<Flaw>,
 ) -> Result<Option<Flaw>, NoMemory>
     requires { IsSound w.now }
-    ensures { (below : JavaType → JavaType → Bool) → IsOrder w.now below → IfOk result (λ r. r ≡ spec.in_member w.now below (member_plain member.now) first) }
+    ensures { spec.Gives w.now result (λ below. spec.in_member w.now below (member_plain member.now) first) }
 {
     match member {
         CoreMember::Fields { vars, .. } => in_fields(alloc, w, vars.as_slice(), first),
@@ -146,7 +146,7 @@ fn in_members(
     first: Option<Flaw>,
 ) -> Result<Option<Flaw>, NoMemory>
     requires { IsSound w.now }
-    ensures { (below : JavaType → JavaType → Bool) → IsOrder w.now below → IfOk result (λ r. r ≡ spec.in_members w.now below (map member_plain members.now) first) }
+    ensures { spec.Gives w.now result (λ below. spec.in_members w.now below (map member_plain members.now) first) }
 {
     let mut first = first;
     for member in members {
@@ -162,7 +162,7 @@ fn in_class(
     first: Option<Flaw>,
 ) -> Result<Option<Flaw>, NoMemory>
     requires { IsSound w.now }
-    ensures { (below : JavaType → JavaType → Bool) → IsOrder w.now below → IfOk result (λ r. r ≡ spec.in_class w.now below (class_plain class.now) first) }
+    ensures { spec.Gives w.now result (λ below. spec.in_class w.now below (class_plain class.now) first) }
 {
     let first = in_members(alloc, w, class.members.as_slice(), first)?;
     Ok(in_implied(alloc, w, &[], &class.default, first))
@@ -175,7 +175,7 @@ fn in_classes(
     first: Option<Flaw>,
 ) -> Result<Option<Flaw>, NoMemory>
     requires { IsSound w.now }
-    ensures { (below : JavaType → JavaType → Bool) → IsOrder w.now below → IfOk result (λ r. r ≡ spec.in_classes w.now below (map class_plain classes.now) first) }
+    ensures { spec.Gives w.now result (λ below. spec.in_classes w.now below (map class_plain classes.now) first) }
 {
     let mut first = first;
     for class in classes {
@@ -191,7 +191,7 @@ fn in_files(
     first: Option<Flaw>,
 ) -> Result<Option<Flaw>, NoMemory>
     requires { IsSound w.now }
-    ensures { (below : JavaType → JavaType → Bool) → IsOrder w.now below → IfOk result (λ r. r ≡ spec.in_files w.now below (map file_plain files.now) first) }
+    ensures { spec.Gives w.now result (λ below. spec.in_files w.now below (map file_plain files.now) first) }
 {
     let mut first = first;
     for file in files {
@@ -203,7 +203,7 @@ fn in_files(
 /// The first of F6 to F10 that a program breaks (JLS 11.2, 14.19, 14.20), by node and then by rule.
 pub fn unhandled(alloc: Global, w: &World, program: &CoreProgram) -> Result<Option<Flaw>, NoMemory>
     requires sound { IsSound w.now }
-    ensures { (below : JavaType → JavaType → Bool) → IsOrder w.now below → IfOk result (λ r. r ≡ spec.unhandled w.now below (program_plain program.now)) }
+    ensures { spec.Gives w.now result (λ below. spec.unhandled w.now below (program_plain program.now)) }
 {
     in_files(alloc, w, program.files.as_slice(), None)
 }

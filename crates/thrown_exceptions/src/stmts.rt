@@ -27,7 +27,7 @@ pub(crate) fn walk(
     state: &mut State,
 ) -> Result<(), NoMemory>
     requires { IsSound w.now }
-    ensures { (below : JavaType → JavaType → Bool) → IsOrder w.now below → OnOk result (state.new ≡ spec.walk w.now below (stmt_plain s.now) state.old) }
+    ensures { spec.Makes w.now result state.new (λ below. spec.walk w.now below (stmt_plain s.now) state.old) }
 {
     match &s.form {
         CoreStmtForm::Block(stmts) => walks(alloc, w, stmts.as_slice(), state),
@@ -95,7 +95,7 @@ fn maybe_walk(
     state: &mut State,
 ) -> Result<(), NoMemory>
     requires { IsSound w.now }
-    ensures { (below : JavaType → JavaType → Bool) → IsOrder w.now below → OnOk result (state.new ≡ spec.maybe_walk w.now below (stmt_maybe (option_map stmt_plain s.now)) state.old) }
+    ensures { spec.Makes w.now result state.new (λ below. spec.maybe_walk w.now below (stmt_maybe (option_map stmt_plain s.now)) state.old) }
 {
     match s {
         None => Ok(()),
@@ -106,7 +106,7 @@ fn maybe_walk(
 #[cycle(walk)]
 fn walks(alloc: Global, w: &World, stmts: &[CoreStmt], state: &mut State) -> Result<(), NoMemory>
     requires { IsSound w.now }
-    ensures { (below : JavaType → JavaType → Bool) → IsOrder w.now below → OnOk result (state.new ≡ spec.walks w.now below (stmts_plain stmts.now) state.old) }
+    ensures { spec.Makes w.now result state.new (λ below. spec.walks w.now below (stmts_plain stmts.now) state.old) }
 {
     for s in stmts {
         walk(alloc, w, s, state)?;
@@ -122,7 +122,7 @@ fn walk_groups(
     state: &mut State,
 ) -> Result<(), NoMemory>
     requires { IsSound w.now }
-    ensures { (below : JavaType → JavaType → Bool) → IsOrder w.now below → OnOk result (state.new ≡ spec.groups w.now below (group_row (map group_plain groups.now)) state.old) }
+    ensures { spec.Makes w.now result state.new (λ below. spec.groups w.now below (group_row (map group_plain groups.now)) state.old) }
 {
     for group in groups {
         walks(alloc, w, group.body.as_slice(), state)?;
@@ -139,7 +139,7 @@ fn walk_catches(
     state: &mut State,
 ) -> Result<(), NoMemory>
     requires { IsSound w.now }
-    ensures { (below : JavaType → JavaType → Bool) → IsOrder w.now below → OnOk result (state.new ≡ spec.catches w.now below (catch_row (map catch_plain catches.now)) state.old) }
+    ensures { spec.Makes w.now result state.new (λ below. spec.catches w.now below (catch_row (map catch_plain catches.now)) state.old) }
 {
     for catch in catches {
         walk(alloc, w, catch.body.get(), state)?;
@@ -157,7 +157,7 @@ fn walk_try(
     state: &mut State,
 ) -> Result<(), NoMemory>
     requires { IsSound w.now }
-    ensures { (below : JavaType → JavaType → Bool) → IsOrder w.now below → OnOk result (state.new ≡ spec.after state.old.raised (spec.tried w.now below (catch_row (map catch_plain catches.now)) (stmt_maybe (option_map stmt_plain last.now)) (spec.walk w.now below (stmt_plain body.now) (spec.with_raised [] state.old)))) }
+    ensures { spec.Makes w.now result state.new (λ below. spec.whole_try w.now below body.now catches.now last.now state.old) }
 {
     let before = take_raised(alloc, state);
     walk_parts(alloc, w, body, catches, last, state)?;
@@ -175,7 +175,7 @@ fn walk_parts(
     state: &mut State,
 ) -> Result<(), NoMemory>
     requires { IsSound w.now }
-    ensures { (below : JavaType → JavaType → Bool) → IsOrder w.now below → OnOk result (state.new ≡ spec.tried w.now below (catch_row (map catch_plain catches.now)) (stmt_maybe (option_map stmt_plain last.now)) (spec.walk w.now below (stmt_plain body.now) state.old)) }
+    ensures { spec.Makes w.now result state.new (λ below. spec.try_parts w.now below body.now catches.now last.now state.old) }
 {
     walk(alloc, w, body, state)?;
     passed(alloc, w, catches, state)?;
@@ -192,7 +192,7 @@ fn finished(
     state: &mut State,
 ) -> Result<(), NoMemory>
     requires { IsSound w.now }
-    ensures { (below : JavaType → JavaType → Bool) → IsOrder w.now below → OnOk result (state.new ≡ spec.finished w.now below (stmt_maybe (option_map stmt_plain last.now)) state.old) }
+    ensures { spec.Makes w.now result state.new (λ below. spec.finished w.now below (stmt_maybe (option_map stmt_plain last.now)) state.old) }
 {
     match last {
         None => Ok(()),

@@ -12,13 +12,6 @@ use Rattle.type_facts.specs.declared.seen.Seen.{Seen}
 use Rattle.type_facts.specs.declared.seen.Seen.TheVariants as seen
 use Rattle.type_facts.specs.Facts.{Facts}
 
-abbrev pub is_interface_of : Option TypeInfo → Bool
-is_interface_of None = false
-is_interface_of (Some info) = info.interface
-
-abbrev pub is_interface : World → ℕ → Bool
-is_interface w c = is_interface_of (slice_get w.types c)
-
 abbrev pub params_of : Option TypeInfo → ℕ
 params_of None = 0
 params_of (Some info) = info.params

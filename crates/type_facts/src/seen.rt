@@ -22,16 +22,6 @@ pub enum Seen {
     Put(Items<JavaType>),
 }
 
-/// Whether a number is that of an interface (JLS 9.1).
-pub fn is_interface(w: &World, c: u32) -> bool
-    ensures { result ≡ spec.is_interface w.now c }
-{
-    match w.types.get(c as usize) {
-        Some(info) => info.interface,
-        None => false,
-    }
-}
-
 fn params_of(w: &World, c: u32) -> u32
     ensures { result ≡ spec.params_at w.now c }
 {

@@ -3,6 +3,7 @@ use Rattle.std.proofs.Common.{◌≡◌, ℕ, ℤ, ◌≤◌, ◌⊎◌, inl, in
 use Rattle.std.specs.Prelude.{OnOk}
 use Rattle.std.specs.Option.{option_map}
 use Rattle.std.proofs.lemmas.List.{append-nil}
+use Rattle.java_tree.specs.declared.tree.Node.{Node}
 use Rattle.class_world.specs.declared.world.JavaType.{JavaType}
 use Rattle.java_core.specs.declared.expr.Before.{Before}
 use Rattle.java_core.specs.declared.expr.CoreExpr.{CoreExpr}
@@ -15,27 +16,28 @@ use Rattle.java_core.proofs.Views.{plain_at}
 use Rattle.type_kinds.specs.Kinds.{ty_of}
 use Rattle.type_facts.specs.Facts.{Facts}
 use Rattle.unchecked_ops.specs.Operations as spec
-use Rattle.unchecked_ops.specs.Raw.{declared_params, method_at}
+use Rattle.type_kinds.specs.Members.{method_at}
+use Rattle.unchecked_ops.specs.Raw.{declared_params}
 use Rattle.unchecked_ops.proofs.Forms.{formed, level}
 use Rattle.unchecked_ops.proofs.Oks.{put_as}
 
 -- the list is the one that was, with this put on
-abbrev pub Adds : (new old more : List ℕ) → Type 0
+abbrev pub Adds : {Y : Type 0} → (new old more : List Y) → Type 0
 Adds new old more = new ≡ old ++ more
 
-pub then : (old mid new a b : List ℕ) → Adds mid old a → Adds new mid b → Adds new old (a ++ b)
+pub then : {Y : Type 0} (old mid new a b : List Y) → Adds mid old a → Adds new mid b → Adds new old (a ++ b)
 then old mid new a b h k = k ∙ ap (λ m. m ++ b) h ∙ append_assoc old a b
 
-pub nothing_more : (old : List ℕ) → Adds old old []
+pub nothing_more : {Y : Type 0} (old : List Y) → Adds old old []
 nothing_more old = sym (append-nil old)
 
 -- the last of several calls
-pub last : {A E : Type 0} (r : Result A E) (old mid new a b : List ℕ) → Adds mid old a → OnOk r (Adds new mid b) → OnOk r (Adds new old (a ++ b))
+pub last : {A E Y : Type 0} (r : Result A E) (old mid new a b : List Y) → Adds mid old a → OnOk r (Adds new mid b) → OnOk r (Adds new old (a ++ b))
 last (Ok x) old mid new a b h k = then old mid new a b h k
 last (Err x) old mid new a b h k = k
 
 -- a call that is the whole
-pub whole : {A E : Type 0} (r : Result A E) (old new a b : List ℕ) → a ≡ b → OnOk r (Adds new old a) → OnOk r (Adds new old b)
+pub whole : {A E Y : Type 0} (r : Result A E) (old new a b : List Y) → a ≡ b → OnOk r (Adds new old a) → OnOk r (Adds new old b)
 whole r old new a b e = put_as r new (old ++ a) (old ++ b) (ap (λ l. old ++ l) e)
 
 -- ---- a node and its parts
@@ -44,7 +46,7 @@ mark_parts : (f : Facts) (u : JavaType → JavaType → Bool) (above : JavaType)
     → spec.own_mark f u here x ++ spec.parts f u above here e.ty form ≡ spec.ops f u above here x
 mark_parts f u above here e form x is = ap (λ x. spec.own_mark f u here x ++ spec.parts f u above here e.ty form) is ∙ sym (ap (spec.ops f u above here) is)
 
-pub node : {A E : Type 0} (f : Facts) (u : JavaType → JavaType → Bool) (above : JavaType) (here : Bool) (e : CoreExpr) (form : p.Form) (r : Result A E) (old mid new parts : List ℕ)
+pub node : {A E : Type 0} (f : Facts) (u : JavaType → JavaType → Bool) (above : JavaType) (here : Bool) (e : CoreExpr) (form : p.Form) (r : Result A E) (old mid new parts : List Node)
     → plain e ≡ p.At e.node e.ty form → Adds mid old (spec.own_mark f u here (plain e)) → parts ≡ spec.parts f u above here e.ty form → OnOk r (Adds new mid parts)
     → OnOk r (Adds new old (spec.ops f u above here (plain e)))
 node f u above here e form r old mid new parts is marked are put =
@@ -52,7 +54,7 @@ node f u above here e form r old mid new parts is marked are put =
     (last r old mid new (spec.own_mark f u here (plain e)) (spec.parts f u above here e.ty form) marked (whole r mid new parts (spec.parts f u above here e.ty form) are put))
 
 -- a node without parts
-pub leaf : (f : Facts) (u : JavaType → JavaType → Bool) (above : JavaType) (here : Bool) (e : CoreExpr) (form : p.Form) (old mid : List ℕ)
+pub leaf : (f : Facts) (u : JavaType → JavaType → Bool) (above : JavaType) (here : Bool) (e : CoreExpr) (form : p.Form) (old mid : List Node)
     → plain e ≡ p.At e.node e.ty form → Adds mid old (spec.own_mark f u here (plain e)) → spec.parts f u above here e.ty form ≡ [] → Adds mid old (spec.ops f u above here (plain e))
 leaf f u above here e form old mid is marked none =
     then old mid mid (spec.own_mark f u here (plain e)) (spec.parts f u above here e.ty form) marked (nothing_more mid ∙ ap (λ l. mid ++ l) (sym none))
@@ -103,7 +105,7 @@ module _ (f : Facts) (u : JavaType → JavaType → Bool) (above : JavaType) whe
   no_parts here t x (inr (inr (inr (inr (inr (inr (inr (inr i)))))))) = none_of here t x (v.SuperField i.0) (o.SuperField i.0) i.1 (v.outs-SuperField i.0) refl
 
 -- at the end of a list
-pub ended : {X : Type 0} (g : List X → List ℕ) → g [] ≡ [] → (xs : List X) (i : ℕ) (out rest : List ℕ) → length xs ≤ i → out ++ g (drop i xs) ≡ rest → out ≡ rest
+pub ended : {X Y : Type 0} (g : List X → List Y) → g [] ≡ [] → (xs : List X) (i : ℕ) (out rest : List Y) → length xs ≤ i → out ++ g (drop i xs) ≡ rest → out ≡ rest
 ended {X = X} g none xs i out rest past is = sym (append-nil out) ∙ ap (λ l. out ++ l) (sym (ap g (dropped xs i past) ∙ none)) ∙ is
   where
     dropped : (xs : List X) (i : ℕ) → length xs ≤ i → drop i xs ≡ []

@@ -3,8 +3,8 @@ use Rattle.std.proofs.Common.{◌≡◌, ℕ, zero, suc, ◌+◌, ◌<◌, List,
 use Rattle.std.specs.Prelude.{slice_index_or as get_or}
 
 -- what a walk g makes of the rest of a list, whose first item is the i-th, begins with what h makes of that item
-pub step : {X : Type 0} (g : ℕ → List X → List ℕ) (h : ℕ → X → List ℕ) → ((i : ℕ) (x : X) (xs : List X) → g i (x ∷ xs) ≡ h i x ++ g (i + 1) xs)
-    → (xs : List X) (i : ℕ) (x : X) (out more whole : List ℕ) → i < length xs → x ≡ get_or xs i x → more ≡ out ++ h i x → out ++ g i (drop i xs) ≡ whole
+pub step : {X Y : Type 0} (g : ℕ → List X → List Y) (h : ℕ → X → List Y) → ((i : ℕ) (x : X) (xs : List X) → g i (x ∷ xs) ≡ h i x ++ g (i + 1) xs)
+    → (xs : List X) (i : ℕ) (x : X) (out more whole : List Y) → i < length xs → x ≡ get_or xs i x → more ≡ out ++ h i x → out ++ g i (drop i xs) ≡ whole
     → more ++ g (i + 1) (drop (i + 1) xs) ≡ whole
 step g h begins xs i x out more whole low is made so_far =
     let next : suc i ≡ i + 1 = omega arith in

@@ -1,19 +1,23 @@
--- The unchecked operations of a core, by the numbers of their nodes, in order, each once. A conversion is at its value.
-use Rattle.std.specs.Prelude.{ℕ, ◌+◌, Bool, true, false, ◌&&◌, ◌||◌, not, List, [], ◌∷◌, ◌++◌, Option, Some, None, slice_get}
+-- The unchecked operations of a core, by their nodes, in order, each once. A conversion is at its value.
+use Rattle.std.specs.Prelude.{◌≡◌, ℕ, ◌+◌, Bool, true, false, ◌&&◌, ◌||◌, not, List, [], ◌∷◌, ◌++◌, Option, Some, None, Result, OnOk, slice_get}
+use Rattle.java_tree.specs.declared.tree.Node.{Node}
 use Rattle.class_world.specs.declared.world.FieldInfo.{FieldInfo}
 use Rattle.class_world.specs.declared.world.MethodInfo.{MethodInfo}
 use Rattle.class_world.specs.declared.world.JavaType.{JavaType}
 use Rattle.java_core.specs.Plain as p
 use Rattle.type_kinds.specs.Kinds.{ty_of, element}
-use Rattle.type_facts.specs.Facts.{Facts}
-use Rattle.unchecked_ops.specs.Raw.{method_at, field_at, params_on, declared_params, is_raw_call, sets_raw}
+use Rattle.type_facts.specs.declared.questions.Questions.{Questions}
+use Rattle.type_facts.specs.Facts.{AreFacts, Facts}
+use Rattle.unchecked_ops.specs.Casting.{AreCasts}
+use Rattle.type_kinds.specs.Members.{field_at, method_at}
+use Rattle.unchecked_ops.specs.Raw.{params_on, declared_params, is_raw_call, sets_raw}
 
 -- a value goes to a variable of the type, where there is one, by an unchecked conversion alone
 abbrev pub converts : Facts → Option JavaType → p.Expr → Bool
 converts f None x = false
 converts f (Some t) x = f.unchecked (ty_of x) t
 
-abbrev pub mark : Bool → ℕ → List ℕ
+abbrev pub mark : Bool → Node → List Node
 mark true n = n ∷ []
 mark false n = []
 
@@ -38,16 +42,16 @@ module _ (f : Facts) (casts : JavaType → JavaType → Bool) where
   abbrev pub is_noted : (here : Bool) → JavaType → p.Form → Bool
   is_noted here t x = not (is_conversion x) && (here || is_unchecked t x)
 
-  abbrev pub own_mark : (here : Bool) → p.Expr → List ℕ
-  own_mark here (p.At n t x) = mark (is_noted here t x) n.id
+  abbrev pub own_mark : (here : Bool) → p.Expr → List Node
+  own_mark here (p.At n t x) = mark (is_noted here t x) n
 
 -- in a class below this type
 module _ (f : Facts) (casts : JavaType → JavaType → Bool) (above : JavaType) where
   abbrev mutual
-    pub ops : (here : Bool) → p.Expr → List ℕ
-    ops here (p.At n t x) = mark (is_noted f casts here t x) n.id ++ parts here t x
+    pub ops : (here : Bool) → p.Expr → List Node
+    ops here (p.At n t x) = mark (is_noted f casts here t x) n ++ parts here t x
 
-    pub parts : (here : Bool) → JavaType → p.Form → List ℕ
+    pub parts : (here : Bool) → JavaType → p.Form → List Node
     parts here t (p.Implied x) = ops here x
     parts here t (p.Widen x) = ops here x
     parts here t (p.Paren x) = ops false x
@@ -73,26 +77,26 @@ module _ (f : Facts) (casts : JavaType → JavaType → Bool) (above : JavaType)
     parts here t (p.Compound op kind x y) = ops false x ++ ops false y
     parts here t _ = []
 
-    pub maybe_ops : p.MaybeExpr → List ℕ
+    pub maybe_ops : p.MaybeExpr → List Node
     maybe_ops p.NoExpr = []
     maybe_ops (p.AnExpr x) = ops false x
 
-    pub each_ops : p.Exprs → List ℕ
+    pub each_ops : p.Exprs → List Node
     each_ops p.End = []
     each_ops (p.Also x xs) = ops false x ++ each_ops xs
 
     -- the items of an array of the type t
-    pub item_ops : JavaType → p.Exprs → List ℕ
+    pub item_ops : JavaType → p.Exprs → List Node
     item_ops t p.End = []
     item_ops t (p.Also x xs) = ops (converts f (element t) x) x ++ item_ops t xs
 
     -- arguments from the i-th on, for parameters of these types
-    pub args : List JavaType → (i : ℕ) → p.Exprs → List ℕ
+    pub args : List JavaType → (i : ℕ) → p.Exprs → List Node
     args ts i p.End = []
     args ts i (p.Also x xs) = ops (converts f (slice_get ts i) x) x ++ args ts (i + 1) xs
 
 -- a value that a variable, a field or the method's caller takes, whose type is t, where there is one
-abbrev pub value_ops : Facts → (JavaType → JavaType → Bool) → (above : JavaType) → Option JavaType → Option p.Expr → List ℕ
+abbrev pub value_ops : Facts → (JavaType → JavaType → Bool) → (above : JavaType) → Option JavaType → Option p.Expr → List Node
 value_ops f casts above t None = []
 value_ops f casts above t (Some x) = ops f casts above (converts f t x) x
 
@@ -107,14 +111,14 @@ result_of (Some m) = m.result
 -- ---- statements and members
 
 module _ (f : Facts) (casts : JavaType → JavaType → Bool) (above : JavaType) where
-  abbrev pub var_ops : List p.Var → List ℕ
+  abbrev pub var_ops : List p.Var → List Node
   var_ops [] = []
   var_ops (v ∷ vs) = value_ops f casts above (Some v.ty) v.init ++ var_ops vs
 
-  abbrev pub call_ops : JavaType → (constructor : ℕ) → p.Exprs → List ℕ
+  abbrev pub call_ops : JavaType → (constructor : ℕ) → p.Exprs → List Node
   call_ops t k xs = args f casts above (params_on f t (method_at f.world k)) 0 xs
 
-  abbrev pub field_ops : List p.FieldVar → List ℕ
+  abbrev pub field_ops : List p.FieldVar → List Node
   field_ops [] = []
   field_ops (x ∷ xs) = value_ops f casts above (field_type (field_at f.world x.field)) x.init ++ field_ops xs
 
@@ -122,7 +126,7 @@ module _ (f : Facts) (casts : JavaType → JavaType → Bool) (above : JavaType)
 module _ (f : Facts) (casts : JavaType → JavaType → Bool) (own above : JavaType) where
   abbrev mutual
     -- `r` is what the method gives
-    pub stmt_ops : (r : Option JavaType) → p.Stmt → List ℕ
+    pub stmt_ops : (r : Option JavaType) → p.Stmt → List Node
     stmt_ops r (p.Block n ss) = stmts_ops r ss
     stmt_ops r (p.Locals n is_final w vs) = var_ops f casts above vs
     stmt_ops r (p.Empty n) = []
@@ -141,30 +145,36 @@ module _ (f : Facts) (casts : JavaType → JavaType → Bool) (own above : JavaT
     stmt_ops r (p.ThisCall n k xs) = call_ops f casts above own k xs
     stmt_ops r (p.SuperFirst n k xs) = call_ops f casts above above k xs
 
-    pub maybe_stmt : (r : Option JavaType) → p.MaybeStmt → List ℕ
+    pub maybe_stmt : (r : Option JavaType) → p.MaybeStmt → List Node
     maybe_stmt r p.NoStmt = []
     maybe_stmt r (p.AStmt a) = stmt_ops r a
 
-    pub stmts_ops : (r : Option JavaType) → p.Stmts → List ℕ
+    pub stmts_ops : (r : Option JavaType) → p.Stmts → List Node
     stmts_ops r p.Last = []
     stmts_ops r (p.Then a ss) = stmt_ops r a ++ stmts_ops r ss
 
-    pub group_ops : (r : Option JavaType) → p.Groups → List ℕ
+    pub group_ops : (r : Option JavaType) → p.Groups → List Node
     group_ops r p.NoGroup = []
     group_ops r (p.AndGroup (p.Labelled n ls ss) gs) = stmts_ops r ss ++ group_ops r gs
 
-    pub catch_ops : (r : Option JavaType) → p.Catches → List ℕ
+    pub catch_ops : (r : Option JavaType) → p.Catches → List Node
     catch_ops r p.NoCatch = []
     catch_ops r (p.AndCatch (p.Caught n x a) cs) = stmt_ops r a ++ catch_ops r cs
 
-  abbrev pub body_ops : (r : Option JavaType) → Option p.Stmt → List ℕ
+  abbrev pub body_ops : (r : Option JavaType) → Option p.Stmt → List Node
   body_ops r None = []
   body_ops r (Some a) = stmt_ops r a
 
-  abbrev pub one_member : p.Member → List ℕ
+  abbrev pub one_member : p.Member → List Node
   one_member (p.Fields n w xs) = field_ops f casts above xs
   one_member (p.AMethod m) = body_ops (result_of (method_at f.world m.method)) m.body
 
-  abbrev pub member_ops : List p.Member → List ℕ
+  abbrev pub member_ops : List p.Member → List Node
   member_ops [] = []
   member_ops (m ∷ ms) = one_member m ++ member_ops ms
+
+-- ---- what is said of a call
+
+-- It puts on what these make of any facts of the file, and of any function that says which casts are unchecked. Nothing is said where memory ran out.
+abbrev pub Puts : {A E : Type 0} → Questions → Result A E → (old new : List Node) → (Facts → (JavaType → JavaType → Bool) → List Node) → Type 0
+Puts q r old new made = (f : Facts) → AreFacts q f → (u : JavaType → JavaType → Bool) → AreCasts q.world.now u → OnOk r (new ≡ old ++ made f u)

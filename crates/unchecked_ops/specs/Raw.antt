@@ -9,19 +9,10 @@ use Rattle.class_world.specs.Types.{erased}
 use Rattle.java_core.specs.Plain as p
 use Rattle.type_kinds.specs.Kinds.{ty_of, has}
 use Rattle.type_facts.specs.Facts.{Facts}
-use Rattle.type_facts.specs.Members.{is_interface, seen_by, as_seen}
+use Rattle.type_kinds.specs.Members.{field_at, is_static_field, method_at}
+use Rattle.type_facts.specs.Members.{as_seen, seen_by}
 use Rattle.type_facts.specs.declared.seen.Seen.{Seen}
 use Rattle.type_facts.specs.declared.seen.Seen.TheVariants as seen
-
-abbrev pub method_at : World → ℕ → Option MethodInfo
-method_at w k = slice_get w.methods k
-
-abbrev pub field_at : World → ℕ → Option FieldInfo
-field_at w k = slice_get w.fields k
-
--- fields of interfaces are static (9.3)
-abbrev pub is_static_field : World → FieldInfo → Bool
-is_static_field w i = has mods.Static i.mods || is_interface w i.owner
 
 -- how a type sees what a method or constructor declares, and a field
 abbrev pub seen_method : Facts → JavaType → MethodInfo → Seen

@@ -8,12 +8,14 @@ ghost use Rattle.type_facts.specs.Facts.{AreFacts, Facts, IsReady};
 ghost use Rattle.type_kinds.specs.Kinds.{element};
 ghost use Rattle.unchecked_ops.specs.Casting.{AreCasts};
 ghost use Rattle.unchecked_ops.specs.Operations as spec;
-ghost use Rattle.unchecked_ops.specs.Raw.{declared_params, method_at, params_on};
+ghost use Rattle.type_kinds.specs.Members.{method_at};
+ghost use Rattle.unchecked_ops.specs.Raw.{declared_params, params_on};
 
 use crate::casting::is_unchecked_cast;
 use crate::raw;
 use class_world::JavaType;
 use java_core::{CoreExpr, CoreForm};
+use java_tree::tree::Node;
 use java_tree::{Boxed, Items, NoMemory};
 use std::alloc::Global;
 use type_facts::Questions;
@@ -85,13 +87,13 @@ fn note(
     q: &Questions<'_>,
     here: bool,
     e: &CoreExpr,
-    out: &mut Items<u32>,
+    out: &mut Items<Node>,
 ) -> Result<(), NoMemory>
     requires { IsReady q.now }
-    ensures { (f : Facts) → AreFacts q.now f → (u : JavaType → JavaType → Bool) → AreCasts q.now.world.now u → OnOk result (out.new ≡ out.old ++ spec.own_mark f u here (plain e.now)) }
+    ensures { spec.Puts q.now result out.old out.new (λ f u. spec.own_mark f u here (plain e.now)) }
 {
     if is_noted(alloc, q, here, &e.ty, &e.form)? {
-        out.push(e.node.id)?;
+        out.push(e.node)?;
     }
     Ok(())
 }
@@ -136,10 +138,10 @@ pub(crate) fn ops(
     above: &JavaType,
     here: bool,
     e: &CoreExpr,
-    out: &mut Items<u32>,
+    out: &mut Items<Node>,
 ) -> Result<(), NoMemory>
     requires { IsReady q.now }
-    ensures { (f : Facts) → AreFacts q.now f → (u : JavaType → JavaType → Bool) → AreCasts q.now.world.now u → OnOk result (out.new ≡ out.old ++ spec.ops f u above.now here (plain e.now)) }
+    ensures { spec.Puts q.now result out.old out.new (λ f u. spec.ops f u above.now here (plain e.now)) }
 {
     note(alloc, q, here, e, out)?;
     match &e.form {
@@ -226,10 +228,10 @@ fn maybe_ops(
     q: &Questions<'_>,
     above: &JavaType,
     of: &Option<Boxed<CoreExpr>>,
-    out: &mut Items<u32>,
+    out: &mut Items<Node>,
 ) -> Result<(), NoMemory>
     requires { IsReady q.now }
-    ensures { (f : Facts) → AreFacts q.now f → (u : JavaType → JavaType → Bool) → AreCasts q.now.world.now u → OnOk result (out.new ≡ out.old ++ spec.maybe_ops f u above.now (maybe (option_map plain of.now))) }
+    ensures { spec.Puts q.now result out.old out.new (λ f u. spec.maybe_ops f u above.now (maybe (option_map plain of.now))) }
 {
     match of {
         None => Ok(()),
@@ -243,10 +245,10 @@ pub(crate) fn each_ops(
     q: &Questions<'_>,
     above: &JavaType,
     xs: &[CoreExpr],
-    out: &mut Items<u32>,
+    out: &mut Items<Node>,
 ) -> Result<(), NoMemory>
     requires { IsReady q.now }
-    ensures { (f : Facts) → AreFacts q.now f → (u : JavaType → JavaType → Bool) → AreCasts q.now.world.now u → OnOk result (out.new ≡ out.old ++ spec.each_ops f u above.now (plains xs.now)) }
+    ensures { spec.Puts q.now result out.old out.new (λ f u. spec.each_ops f u above.now (plains xs.now)) }
 {
     for x in xs {
         ops(alloc, q, above, false, x, out)?;
@@ -262,10 +264,10 @@ fn item_ops(
     above: &JavaType,
     ty: &JavaType,
     xs: &[CoreExpr],
-    out: &mut Items<u32>,
+    out: &mut Items<Node>,
 ) -> Result<(), NoMemory>
     requires { IsReady q.now }
-    ensures { (f : Facts) → AreFacts q.now f → (u : JavaType → JavaType → Bool) → AreCasts q.now.world.now u → OnOk result (out.new ≡ out.old ++ spec.item_ops f u above.now ty.now (plains xs.now)) }
+    ensures { spec.Puts q.now result out.old out.new (λ f u. spec.item_ops f u above.now ty.now (plains xs.now)) }
 {
     for x in xs {
         let unchecked = is_for_item(q, ty, x);
@@ -282,10 +284,10 @@ fn args(
     above: &JavaType,
     ts: &[JavaType],
     xs: &[CoreExpr],
-    out: &mut Items<u32>,
+    out: &mut Items<Node>,
 ) -> Result<(), NoMemory>
     requires { IsReady q.now }
-    ensures { (f : Facts) → AreFacts q.now f → (u : JavaType → JavaType → Bool) → AreCasts q.now.world.now u → OnOk result (out.new ≡ out.old ++ spec.args f u above.now ts.now 0 (plains xs.now)) }
+    ensures { spec.Puts q.now result out.old out.new (λ f u. spec.args f u above.now ts.now 0 (plains xs.now)) }
 {
     for (i, x) in xs.iter().enumerate() {
         let unchecked = is_for_param(q, ts, i, x);
@@ -303,10 +305,10 @@ pub(crate) fn method_args(
     t: &JavaType,
     method: u32,
     xs: &[CoreExpr],
-    out: &mut Items<u32>,
+    out: &mut Items<Node>,
 ) -> Result<(), NoMemory>
     requires { IsReady q.now }
-    ensures { (f : Facts) → AreFacts q.now f → (u : JavaType → JavaType → Bool) → AreCasts q.now.world.now u → OnOk result (out.new ≡ out.old ++ spec.args f u above.now (params_on f t.now (method_at f.world method)) 0 (plains xs.now)) }
+    ensures { spec.Puts q.now result out.old out.new (λ f u. spec.args f u above.now (params_on f t.now (method_at f.world method)) 0 (plains xs.now)) }
 {
     let params = raw::params_on(alloc, q, t, method)?;
     args(alloc, q, above, params.as_slice(), xs, out)
@@ -319,10 +321,10 @@ fn static_args(
     above: &JavaType,
     method: u32,
     xs: &[CoreExpr],
-    out: &mut Items<u32>,
+    out: &mut Items<Node>,
 ) -> Result<(), NoMemory>
     requires { IsReady q.now }
-    ensures { (f : Facts) → AreFacts q.now f → (u : JavaType → JavaType → Bool) → AreCasts q.now.world.now u → OnOk result (out.new ≡ out.old ++ spec.args f u above.now (declared_params (method_at f.world method)) 0 (plains xs.now)) }
+    ensures { spec.Puts q.now result out.old out.new (λ f u. spec.args f u above.now (declared_params (method_at f.world method)) 0 (plains xs.now)) }
 {
     match q.world.methods.get(method as usize) {
         None => args(alloc, q, above, &[], xs, out),

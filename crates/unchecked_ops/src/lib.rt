@@ -4,11 +4,11 @@
 pub mod casting;
 mod exprs;
 pub mod laws;
-pub mod operations;
-pub mod program;
+mod operations;
+mod program;
 mod raw;
 mod stmts;
 
 pub use casting::is_unchecked_cast;
 pub use operations::unchecked_of_class;
-pub use program::{files_operations, program_operations};
+pub use program::{Operation, program_operations};

@@ -7,11 +7,12 @@ ghost use Rattle.java_core.specs.View.{field_plain, member_plain, stmt_plain};
 ghost use Rattle.type_facts.specs.Facts.{AreFacts, Facts, IsReady};
 ghost use Rattle.unchecked_ops.specs.Casting.{AreCasts};
 ghost use Rattle.unchecked_ops.specs.Operations as spec;
-ghost use Rattle.unchecked_ops.specs.Raw.{field_at, method_at};
+ghost use Rattle.type_kinds.specs.Members.{field_at, method_at};
 
 use crate::stmts::{init_ops, option_ops, stmt_ops};
 use class_world::JavaType;
 use java_core::{CoreClass, CoreField, CoreMember, CoreStmt};
+use java_tree::tree::Node;
 use java_tree::{Items, NoMemory};
 use std::alloc::Global;
 use type_facts::Questions;
@@ -21,10 +22,10 @@ fn value_ops(
     q: &Questions<'_>,
     above: &JavaType,
     x: &CoreField,
-    out: &mut Items<u32>,
+    out: &mut Items<Node>,
 ) -> Result<(), NoMemory>
     requires { IsReady q.now }
-    ensures { (f : Facts) → AreFacts q.now f → (u : JavaType → JavaType → Bool) → AreCasts q.now.world.now u → OnOk result (out.new ≡ out.old ++ spec.value_ops f u above.now (spec.field_type (field_at f.world (field_plain x.now).field)) (field_plain x.now).init) }
+    ensures { spec.Puts q.now result out.old out.new (λ f u. spec.value_ops f u above.now (spec.field_type (field_at f.world (field_plain x.now).field)) (field_plain x.now).init) }
 {
     match q.world.fields.get(x.field as usize) {
         None => option_ops(alloc, q, above, &x.init, out),
@@ -37,10 +38,10 @@ fn field_ops(
     q: &Questions<'_>,
     above: &JavaType,
     vars: &[CoreField],
-    out: &mut Items<u32>,
+    out: &mut Items<Node>,
 ) -> Result<(), NoMemory>
     requires { IsReady q.now }
-    ensures { (f : Facts) → AreFacts q.now f → (u : JavaType → JavaType → Bool) → AreCasts q.now.world.now u → OnOk result (out.new ≡ out.old ++ spec.field_ops f u above.now (map field_plain vars.now)) }
+    ensures { spec.Puts q.now result out.old out.new (λ f u. spec.field_ops f u above.now (map field_plain vars.now)) }
 {
     for x in vars {
         value_ops(alloc, q, above, x, out)?;
@@ -55,10 +56,10 @@ fn given_ops(
     above: &JavaType,
     given: &Option<JavaType>,
     body: &Option<CoreStmt>,
-    out: &mut Items<u32>,
+    out: &mut Items<Node>,
 ) -> Result<(), NoMemory>
     requires { IsReady q.now }
-    ensures { (f : Facts) → AreFacts q.now f → (u : JavaType → JavaType → Bool) → AreCasts q.now.world.now u → OnOk result (out.new ≡ out.old ++ spec.body_ops f u own.now above.now given.now (option_map stmt_plain body.now)) }
+    ensures { spec.Puts q.now result out.old out.new (λ f u. spec.body_ops f u own.now above.now given.now (option_map stmt_plain body.now)) }
 {
     match body {
         None => Ok(()),
@@ -74,10 +75,10 @@ fn body_ops(
     above: &JavaType,
     method: u32,
     body: &Option<CoreStmt>,
-    out: &mut Items<u32>,
+    out: &mut Items<Node>,
 ) -> Result<(), NoMemory>
     requires { IsReady q.now }
-    ensures { (f : Facts) → AreFacts q.now f → (u : JavaType → JavaType → Bool) → AreCasts q.now.world.now u → OnOk result (out.new ≡ out.old ++ spec.body_ops f u own.now above.now (spec.result_of (method_at f.world method)) (option_map stmt_plain body.now)) }
+    ensures { spec.Puts q.now result out.old out.new (λ f u. spec.body_ops f u own.now above.now (spec.result_of (method_at f.world method)) (option_map stmt_plain body.now)) }
 {
     match q.world.methods.get(method as usize) {
         None => given_ops(alloc, q, own, above, &None, body, out),
@@ -91,10 +92,10 @@ fn one_member(
     own: &JavaType,
     above: &JavaType,
     member: &CoreMember,
-    out: &mut Items<u32>,
+    out: &mut Items<Node>,
 ) -> Result<(), NoMemory>
     requires { IsReady q.now }
-    ensures { (f : Facts) → AreFacts q.now f → (u : JavaType → JavaType → Bool) → AreCasts q.now.world.now u → OnOk result (out.new ≡ out.old ++ spec.one_member f u own.now above.now (member_plain member.now)) }
+    ensures { spec.Puts q.now result out.old out.new (λ f u. spec.one_member f u own.now above.now (member_plain member.now)) }
 {
     match member {
         CoreMember::Fields { vars, .. } => field_ops(alloc, q, above, vars.as_slice(), out),
@@ -110,10 +111,10 @@ fn member_ops(
     own: &JavaType,
     above: &JavaType,
     members: &[CoreMember],
-    out: &mut Items<u32>,
+    out: &mut Items<Node>,
 ) -> Result<(), NoMemory>
     requires { IsReady q.now }
-    ensures { (f : Facts) → AreFacts q.now f → (u : JavaType → JavaType → Bool) → AreCasts q.now.world.now u → OnOk result (out.new ≡ out.old ++ spec.member_ops f u own.now above.now (map member_plain members.now)) }
+    ensures { spec.Puts q.now result out.old out.new (λ f u. spec.member_ops f u own.now above.now (map member_plain members.now)) }
 {
     for member in members {
         one_member(alloc, q, own, above, member, out)?;
@@ -128,10 +129,10 @@ pub fn unchecked_of_class(
     class: &CoreClass,
     own: &JavaType,
     above: &JavaType,
-    out: &mut Items<u32>,
+    out: &mut Items<Node>,
 ) -> Result<(), NoMemory>
     requires { IsReady q.now }
-    ensures { (f : Facts) → AreFacts q.now f → (u : JavaType → JavaType → Bool) → AreCasts q.now.world.now u → OnOk result (out.new ≡ out.old ++ spec.member_ops f u own.now above.now (map member_plain class.now.members)) }
+    ensures { spec.Puts q.now result out.old out.new (λ f u. spec.member_ops f u own.now above.now (map member_plain class.now.members)) }
 {
     member_ops(alloc, q, own, above, class.members.as_slice(), out)
 }

@@ -1,17 +1,17 @@
 //! The unchecked operations of classes, files and programs.
 
-ghost use Rattle.std.specs.Prelude.{◌≡◌, ◌++◌, ℕ, Bool, IfOk, OnOk, length, map, slice_get};
-ghost use Rattle.class_world.specs.declared.world.JavaType.{JavaType};
+ghost use Rattle.std.specs.Prelude.{◌≡◌, ◌++◌, IfOk, OnOk, length, map, slice_get};
 ghost use Rattle.java_core.specs.View.{class_plain, file_plain, program_plain};
 ghost use Rattle.member_uses.specs.Targets.{superclass as superclass_of};
-ghost use Rattle.type_facts.specs.Facts.{AreFacts, Facts, IsReady};
-ghost use Rattle.unchecked_ops.specs.Casting.{AreCasts};
+ghost use Rattle.type_facts.specs.Facts.{IsReady};
+ghost use Rattle.unchecked_ops.specs.Operations as operations;
 ghost use Rattle.unchecked_ops.specs.Programs as spec;
 
 use crate::casting::own_type;
 use crate::operations::unchecked_of_class;
 use class_world::{JavaType, World};
 use java_core::{CoreClass, CoreFile, CoreProgram};
+use java_tree::tree::Node;
 use java_tree::{Items, NoMemory};
 use member_uses::superclass;
 use std::alloc::Global;
@@ -41,10 +41,10 @@ fn class_ops(
     alloc: Global,
     q: &Questions<'_>,
     class: &CoreClass,
-    out: &mut Items<u32>,
+    out: &mut Items<Node>,
 ) -> Result<(), NoMemory>
     requires { IsReady q.now }
-    ensures { (f : Facts) → AreFacts q.now f → (u : JavaType → JavaType → Bool) → AreCasts q.now.world.now u → OnOk result (out.new ≡ out.old ++ spec.class_ops f u (class_plain class.now)) }
+    ensures { operations.Puts q.now result out.old out.new (λ f u. spec.class_ops f u (class_plain class.now)) }
 {
     let own = this_type(alloc, q.world, class.number)?;
     let above = super_type(alloc, q.world, class.number)?;
@@ -55,10 +55,10 @@ fn classes_ops(
     alloc: Global,
     q: &Questions<'_>,
     classes: &[CoreClass],
-    out: &mut Items<u32>,
+    out: &mut Items<Node>,
 ) -> Result<(), NoMemory>
     requires { IsReady q.now }
-    ensures { (f : Facts) → AreFacts q.now f → (u : JavaType → JavaType → Bool) → AreCasts q.now.world.now u → OnOk result (out.new ≡ out.old ++ spec.classes_ops f u (map class_plain classes.now)) }
+    ensures { operations.Puts q.now result out.old out.new (λ f u. spec.classes_ops f u (map class_plain classes.now)) }
 {
     for class in classes {
         class_ops(alloc, q, class, out)?;
@@ -78,28 +78,46 @@ fn in_file<'a>(q: &Questions<'a>, file: u32) -> Questions<'a>
     }
 }
 
+/// An unchecked operation: the number of its file, from 0, user files before library files, and its node.
+#[derive(Clone, Copy, Debug, PartialEq, Eq)]
+pub struct Operation {
+    pub file: u32,
+    pub node: Node,
+}
+
+fn put_all(file: u32, nodes: &[Node], out: &mut Items<Operation>) -> Result<(), NoMemory>
+    ensures { OnOk result (out.new ≡ out.old ++ map (spec.operation file) nodes.now) }
+{
+    for node in nodes {
+        out.push(Operation { file, node: *node })?;
+    }
+    Ok(())
+}
+
 fn file_ops(
     alloc: Global,
     q: &Questions<'_>,
     number: u32,
     file: &CoreFile,
-    out: &mut Items<u32>,
+    out: &mut Items<Operation>,
 ) -> Result<(), NoMemory>
     requires { IsReady q.now }
-    ensures { (f : Facts) → AreFacts (spec.in_file q.now number) f → (u : JavaType → JavaType → Bool) → AreCasts q.now.world.now u → OnOk result (out.new ≡ out.old ++ spec.classes_ops f u (file_plain file.now).classes) }
+    ensures { spec.PutsIn q.now number result out.old out.new (λ f u. spec.file_ops f u number (file_plain file.now)) }
 {
     let here = in_file(q, number);
-    classes_ops(alloc, &here, file.classes.as_slice(), out)
+    let mut nodes = Items::new(alloc);
+    classes_ops(alloc, &here, file.classes.as_slice(), &mut nodes)?;
+    put_all(number, nodes.as_slice(), out)
 }
 
 fn files_ops(
     alloc: Global,
     q: &Questions<'_>,
     files: &[CoreFile],
-    out: &mut Items<u32>,
+    out: &mut Items<Operation>,
 ) -> Result<(), NoMemory>
     requires { IsReady q.now }
-    ensures { (fs : ℕ → Facts) → spec.AreFileFacts q.now (length files.now) fs → (u : JavaType → JavaType → Bool) → AreCasts q.now.world.now u → OnOk result (out.new ≡ out.old ++ spec.files_ops fs u 0 (map file_plain files.now)) }
+    ensures { spec.PutsOf q.now (length files.now) result out.old out.new (λ fs u. spec.files_ops fs u 0 (map file_plain files.now)) }
 {
     if files.len() > u32::MAX as usize {
         return Err(NoMemory);
@@ -110,29 +128,17 @@ fn files_ops(
     Ok(())
 }
 
-/// The numbers of the nodes of the unchecked operations of a program's first files, as a walk in preorder meets them (JLS 4.8, 5.1.9, 5.5). The file of the questions does not matter.
-/// More than 2^32 - 1 files are want of memory.
-pub fn files_operations(
-    alloc: Global,
-    q: &Questions<'_>,
-    files: &[CoreFile],
-) -> Result<Items<u32>, NoMemory>
-    requires ready { IsReady q.now }
-    ensures { (fs : ℕ → Facts) → spec.AreFileFacts q.now (length files.now) fs → (u : JavaType → JavaType → Bool) → AreCasts q.now.world.now u → IfOk result (λ r. r ≡ spec.files_ops fs u 0 (map file_plain files.now)) }
-{
-    let mut out = Items::new(alloc);
-    files_ops(alloc, q, files, &mut out)?;
-    Ok(out)
-}
-
-/// The same of a whole program.
+/// The unchecked operations of a program, file by file, as a walk in preorder meets them (JLS 4.8, 5.1.9, 5.5). The file of the questions does not matter. More than
+/// 2^32 - 1 files are want of memory.
 pub fn program_operations(
     alloc: Global,
     q: &Questions<'_>,
     program: &CoreProgram,
-) -> Result<Items<u32>, NoMemory>
+) -> Result<Items<Operation>, NoMemory>
     requires ready { IsReady q.now }
-    ensures { (fs : ℕ → Facts) → spec.AreFileFacts q.now (length program.now.files) fs → (u : JavaType → JavaType → Bool) → AreCasts q.now.world.now u → IfOk result (λ r. r ≡ spec.program_ops fs u (program_plain program.now)) }
+    ensures { spec.Gives q.now (length program.now.files) result (λ fs u. spec.program_ops fs u (program_plain program.now)) }
 {
-    files_operations(alloc, q, program.files.as_slice())
+    let mut out = Items::new(alloc);
+    files_ops(alloc, q, program.files.as_slice(), &mut out)?;
+    Ok(out)
 }

@@ -4,6 +4,7 @@ ghost use Rattle.std.specs.Prelude.{◌≡◌, ◌&&◌, IfOk, Some, map};
 ghost use Rattle.java_core.specs.View.{plain};
 ghost use Rattle.type_facts.specs.Facts.{AreFacts, Facts, IsReady};
 ghost use Rattle.type_facts.specs.Members.{as_seen};
+ghost use Rattle.type_kinds.specs.Members.{field_at, method_at};
 ghost use Rattle.unchecked_ops.specs.Raw as spec;
 
 use class_world::{FieldInfo, JavaType, MethodInfo, World, erase};
@@ -13,15 +14,9 @@ use java_tree::{Items, NoMemory};
 use std::alloc::Global;
 use type_facts::Questions;
 use type_facts::asks::is_below;
-use type_facts::seen::{self, Seen, is_interface, seen_by};
+use type_facts::seen::{self, Seen, seen_by};
 use type_kinds::kinds::has;
-
-/// Whether a field is static; those of interfaces are (JLS 8.3.1.1, 9.3).
-fn is_static_field(w: &World, field: &FieldInfo) -> bool
-    ensures { result ≡ spec.is_static_field w.now field.now }
-{
-    has(Mod::Static, field.mods.as_slice()) || is_interface(w, field.owner)
-}
+use type_kinds::members::is_static_field;
 
 fn seen_method(
     alloc: Global,
@@ -80,7 +75,7 @@ pub(crate) fn params_on(
     method: u32,
 ) -> Result<Items<JavaType>, NoMemory>
     requires { IsReady q.now }
-    ensures { (f : Facts) → AreFacts q.now f → IfOk result (λ r. r ≡ spec.params_on f t.now (spec.method_at f.world method)) }
+    ensures { (f : Facts) → AreFacts q.now f → IfOk result (λ r. r ≡ spec.params_on f t.now (method_at f.world method)) }
 {
     match q.world.methods.get(method as usize) {
         None => Ok(Items::new(alloc)),
@@ -150,7 +145,7 @@ pub(crate) fn is_raw_call(
     method: u32,
 ) -> Result<bool, NoMemory>
     requires { IsReady q.now }
-    ensures { (f : Facts) → AreFacts q.now f → IfOk result (λ r. r ≡ spec.is_raw_call f t.now (spec.method_at f.world method)) }
+    ensures { (f : Facts) → AreFacts q.now f → IfOk result (λ r. r ≡ spec.is_raw_call f t.now (method_at f.world method)) }
 {
     match q.world.methods.get(method as usize) {
         None => Ok(false),
@@ -182,7 +177,7 @@ fn is_raw_field(
     field: u32,
 ) -> Result<bool, NoMemory>
     requires { IsReady q.now }
-    ensures { (f : Facts) → AreFacts q.now f → IfOk result (λ r. r ≡ spec.is_raw_field f t.now (spec.field_at f.world field)) }
+    ensures { (f : Facts) → AreFacts q.now f → IfOk result (λ r. r ≡ spec.is_raw_field f t.now (field_at f.world field)) }
 {
     match q.world.fields.get(field as usize) {
         None => Ok(false),

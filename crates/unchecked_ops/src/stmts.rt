@@ -11,6 +11,7 @@ ghost use Rattle.unchecked_ops.specs.Operations as spec;
 use crate::exprs::{each_ops, is_for, method_args, ops};
 use class_world::JavaType;
 use java_core::{CoreCatch, CoreExpr, CoreGroup, CoreStmt, CoreStmtForm, CoreVar};
+use java_tree::tree::Node;
 use java_tree::{Boxed, Items, NoMemory};
 use std::alloc::Global;
 use type_facts::Questions;
@@ -22,10 +23,10 @@ pub(crate) fn option_ops(
     q: &Questions<'_>,
     above: &JavaType,
     x: &Option<CoreExpr>,
-    out: &mut Items<u32>,
+    out: &mut Items<Node>,
 ) -> Result<(), NoMemory>
     requires { IsReady q.now }
-    ensures { (f : Facts) → AreFacts q.now f → (u : JavaType → JavaType → Bool) → AreCasts q.now.world.now u → OnOk result (out.new ≡ out.old ++ spec.value_ops f u above.now None (option_map plain x.now)) }
+    ensures { spec.Puts q.now result out.old out.new (λ f u. spec.value_ops f u above.now None (option_map plain x.now)) }
 {
     match x {
         None => Ok(()),
@@ -40,10 +41,10 @@ pub(crate) fn init_ops(
     above: &JavaType,
     ty: &JavaType,
     x: &Option<CoreExpr>,
-    out: &mut Items<u32>,
+    out: &mut Items<Node>,
 ) -> Result<(), NoMemory>
     requires { IsReady q.now }
-    ensures { (f : Facts) → AreFacts q.now f → (u : JavaType → JavaType → Bool) → AreCasts q.now.world.now u → OnOk result (out.new ≡ out.old ++ spec.value_ops f u above.now (Some ty.now) (option_map plain x.now)) }
+    ensures { spec.Puts q.now result out.old out.new (λ f u. spec.value_ops f u above.now (Some ty.now) (option_map plain x.now)) }
 {
     match x {
         None => Ok(()),
@@ -60,10 +61,10 @@ fn return_ops(
     above: &JavaType,
     given: &Option<JavaType>,
     x: &Option<CoreExpr>,
-    out: &mut Items<u32>,
+    out: &mut Items<Node>,
 ) -> Result<(), NoMemory>
     requires { IsReady q.now }
-    ensures { (f : Facts) → AreFacts q.now f → (u : JavaType → JavaType → Bool) → AreCasts q.now.world.now u → OnOk result (out.new ≡ out.old ++ spec.value_ops f u above.now given.now (option_map plain x.now)) }
+    ensures { spec.Puts q.now result out.old out.new (λ f u. spec.value_ops f u above.now given.now (option_map plain x.now)) }
 {
     match given {
         None => option_ops(alloc, q, above, x, out),
@@ -76,10 +77,10 @@ fn var_ops(
     q: &Questions<'_>,
     above: &JavaType,
     vars: &[CoreVar],
-    out: &mut Items<u32>,
+    out: &mut Items<Node>,
 ) -> Result<(), NoMemory>
     requires { IsReady q.now }
-    ensures { (f : Facts) → AreFacts q.now f → (u : JavaType → JavaType → Bool) → AreCasts q.now.world.now u → OnOk result (out.new ≡ out.old ++ spec.var_ops f u above.now (map var_plain vars.now)) }
+    ensures { spec.Puts q.now result out.old out.new (λ f u. spec.var_ops f u above.now (map var_plain vars.now)) }
 {
     for var in vars {
         init_ops(alloc, q, above, &var.ty, &var.init, out)?;
@@ -97,10 +98,10 @@ pub(crate) fn stmt_ops(
     above: &JavaType,
     given: &Option<JavaType>,
     s: &CoreStmt,
-    out: &mut Items<u32>,
+    out: &mut Items<Node>,
 ) -> Result<(), NoMemory>
     requires { IsReady q.now }
-    ensures { (f : Facts) → AreFacts q.now f → (u : JavaType → JavaType → Bool) → AreCasts q.now.world.now u → OnOk result (out.new ≡ out.old ++ spec.stmt_ops f u own.now above.now given.now (stmt_plain s.now)) }
+    ensures { spec.Puts q.now result out.old out.new (λ f u. spec.stmt_ops f u own.now above.now given.now (stmt_plain s.now)) }
 {
     match &s.form {
         CoreStmtForm::Block(stmts) => {
@@ -176,10 +177,10 @@ fn maybe_stmt(
     above: &JavaType,
     given: &Option<JavaType>,
     s: &Option<Boxed<CoreStmt>>,
-    out: &mut Items<u32>,
+    out: &mut Items<Node>,
 ) -> Result<(), NoMemory>
     requires { IsReady q.now }
-    ensures { (f : Facts) → AreFacts q.now f → (u : JavaType → JavaType → Bool) → AreCasts q.now.world.now u → OnOk result (out.new ≡ out.old ++ spec.maybe_stmt f u own.now above.now given.now (stmt_maybe (option_map stmt_plain s.now))) }
+    ensures { spec.Puts q.now result out.old out.new (λ f u. spec.maybe_stmt f u own.now above.now given.now (stmt_maybe (option_map stmt_plain s.now))) }
 {
     match s {
         None => Ok(()),
@@ -195,10 +196,10 @@ fn stmts_ops(
     above: &JavaType,
     given: &Option<JavaType>,
     stmts: &[CoreStmt],
-    out: &mut Items<u32>,
+    out: &mut Items<Node>,
 ) -> Result<(), NoMemory>
     requires { IsReady q.now }
-    ensures { (f : Facts) → AreFacts q.now f → (u : JavaType → JavaType → Bool) → AreCasts q.now.world.now u → OnOk result (out.new ≡ out.old ++ spec.stmts_ops f u own.now above.now given.now (stmts_plain stmts.now)) }
+    ensures { spec.Puts q.now result out.old out.new (λ f u. spec.stmts_ops f u own.now above.now given.now (stmts_plain stmts.now)) }
 {
     for s in stmts {
         stmt_ops(alloc, q, own, above, given, s, out)?;
@@ -214,10 +215,10 @@ fn group_ops(
     above: &JavaType,
     given: &Option<JavaType>,
     groups: &[CoreGroup],
-    out: &mut Items<u32>,
+    out: &mut Items<Node>,
 ) -> Result<(), NoMemory>
     requires { IsReady q.now }
-    ensures { (f : Facts) → AreFacts q.now f → (u : JavaType → JavaType → Bool) → AreCasts q.now.world.now u → OnOk result (out.new ≡ out.old ++ spec.group_ops f u own.now above.now given.now (group_row (map group_plain groups.now))) }
+    ensures { spec.Puts q.now result out.old out.new (λ f u. spec.group_ops f u own.now above.now given.now (group_row (map group_plain groups.now))) }
 {
     for group in groups {
         stmts_ops(alloc, q, own, above, given, group.body.as_slice(), out)?;
@@ -233,10 +234,10 @@ fn catch_ops(
     above: &JavaType,
     given: &Option<JavaType>,
     catches: &[CoreCatch],
-    out: &mut Items<u32>,
+    out: &mut Items<Node>,
 ) -> Result<(), NoMemory>
     requires { IsReady q.now }
-    ensures { (f : Facts) → AreFacts q.now f → (u : JavaType → JavaType → Bool) → AreCasts q.now.world.now u → OnOk result (out.new ≡ out.old ++ spec.catch_ops f u own.now above.now given.now (catch_row (map catch_plain catches.now))) }
+    ensures { spec.Puts q.now result out.old out.new (λ f u. spec.catch_ops f u own.now above.now given.now (catch_row (map catch_plain catches.now))) }
 {
     for catch in catches {
         stmt_ops(alloc, q, own, above, given, catch.body.get(), out)?;

@@ -10,7 +10,8 @@ use Rattle.java_core.specs.View.{form_plain, maybe, plain, plains}
 use Rattle.java_core.proofs.Views.{plain_at}
 use Rattle.type_kinds.specs.Kinds.{element}
 use Rattle.unchecked_ops.specs.Operations as spec
-use Rattle.unchecked_ops.specs.Raw.{declared_params, method_at, params_on}
+use Rattle.type_kinds.specs.Members.{method_at}
+use Rattle.unchecked_ops.specs.Raw.{declared_params, params_on}
 use Rattle.unchecked_ops.proofs.Arms.{ended, last, leaf, maybe_some, no_parts, node, pair, static_call, static_field, ty_at, whole}
 use Rattle.unchecked_ops.proofs.Forms.{shaped}
 use Rattle.unchecked_ops.proofs.Heights.{height, heights}

@@ -5,7 +5,8 @@ use Rattle.java_core.specs.declared.expr.CoreForm.TheOpen as open_form
 use Rattle.java_core.specs.View.{plain}
 use Rattle.java_core.proofs.Views.{plain_at}
 use Rattle.type_kinds.specs.Kinds.{ty_of}
-use Rattle.unchecked_ops.specs.Raw.{is_raw_call, method_at, sets_raw}
+use Rattle.type_kinds.specs.Members.{method_at}
+use Rattle.unchecked_ops.specs.Raw.{is_raw_call, sets_raw}
 use Rattle.unchecked_ops.specs.Operations as spec
 use Rattle.unchecked_ops.proofs.Forms.{formed}
 use Rattle.unchecked_ops.proofs.Oks.{ok_as}

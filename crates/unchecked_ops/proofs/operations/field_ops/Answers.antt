@@ -1,7 +1,7 @@
 use Rattle.std.proofs.Common.{map, refl}
 use Rattle.java_core.specs.View.{field_plain}
 use Rattle.unchecked_ops.specs.Operations as spec
-use Rattle.unchecked_ops.specs.Raw.{field_at}
+use Rattle.type_kinds.specs.Members.{field_at}
 use Rattle.unchecked_ops.proofs.Steps.{step}
 use Rattle.unchecked_ops.proofs.operations.field_ops.Goals as goal
 

@@ -7,7 +7,7 @@ use Rattle.unchecked_ops.proofs.program.files_ops.Goals as goal
 
 pub loop-i-preserved : goal.loop-i-preserved
 loop-i-preserved c =
-    λ fs d u m. step (λ i xs. spec.files_ops fs u i (map file_plain xs)) (λ i x. spec.classes_ops (fs i) u (file_plain x).classes) (λ i x xs. refl)
+    λ fs d u m. step (λ i xs. spec.files_ops fs u i (map file_plain xs)) (λ i x. spec.file_ops (fs i) u i (file_plain x)) (λ i x xs. refl)
     c.args.files.now c.loop-i.i c.index-files-i.result c.loop-i.out c.file_ops.new.out _ c.loop-i-test.true c.index-files-i.is
     (c.in_ok-file_ops.ensures {u = tt} (fs c.loop-i.i) (d c.loop-i.i c.loop-i-test.true) u m) (c.loop-i.invariant fs d u m)
 

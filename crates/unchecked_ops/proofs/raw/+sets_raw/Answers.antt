@@ -5,6 +5,7 @@ use Rattle.java_core.specs.declared.expr.CoreForm.TheOpen as open_form
 use Rattle.java_core.specs.View.{plain}
 use Rattle.java_core.proofs.Views.{plain_at}
 use Rattle.type_kinds.specs.Kinds.{ty_of}
+use Rattle.type_kinds.specs.Members.{field_at}
 use Rattle.unchecked_ops.specs.Raw as spec
 use Rattle.unchecked_ops.proofs.Forms.{shaped}
 use Rattle.unchecked_ops.proofs.Oks.{ok_as}
@@ -14,7 +15,7 @@ pub returns-in-Field : goal.returns-in-Field
 returns-in-Field t c =
     λ f d.
     let i = c.in-Field in
-    let k = spec.field_at f.world i.field in
+    let k = field_at f.world i.field in
     ok_as c.is_raw_field.result _ _
     (ap (λ (x : CoreExpr). spec.is_raw_field f x.ty k) c.get.ensures ∙ sym (ap (λ y. spec.is_raw_field f (ty_of y) k) (plain_at i.of))
     ∙ sym (ap (spec.sets_raw f) (shaped c.args.e.now (v.Field i.of i.simple i.field) (open_form.Field i.of i.simple i.field) i.is (v.outs-Field i.of i.simple i.field))))

@@ -1,0 +1,4 @@
+class Late {
+  int m() {
+  }
+}

@@ -1,0 +1,5 @@
+class Wrong {
+  int m() {
+    return "a";
+  }
+}

@@ -1,0 +1,4 @@
+package l;
+public class Door {
+  public Door() throws Lost { }
+}

@@ -1,0 +1,7 @@
+package l;
+class Stuck<T> {
+  T m(T x) {
+    return x;
+    ;
+  }
+}

@@ -1,0 +1,6 @@
+package l;
+class Wild {
+  int m() {
+    return hidden;
+  }
+}
