@@ -268,11 +268,17 @@ impl Files for Unread {
 }
 
 /// Words, and the answer where each read wants memory, with its report.
-const WANTING: [(&str, Status, &str); 5] = [
+const WANTING: [(&str, Status, &str); 7] = [
     (REQUEST, Status::NoMemory, ""),
     (TWO_FILES, Status::NoMemory, ""),
     ("check -- A.java", Status::NoMemory, ""),
-    ("run 1 A -- A.java", Status::Refused, "refused N1 -\n"),
+    ("run 1 A -- A.java", Status::NoMemory, ""),
+    (
+        "run 100000001 A -- A.java",
+        Status::Refused,
+        "refused L9 -\n",
+    ),
+    ("workload 1", Status::Refused, "refused N1 -\n"),
     (
         "generalize out A.java 5 5 A --",
         Status::Usage,

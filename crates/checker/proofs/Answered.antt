@@ -1,9 +1,8 @@
 -- What the check of a program's files says of the program.
-use Rattle.std.proofs.Common.{◌≡◌, ◌<◌, ℕ, Bool, List, Result, Ok, Err, ◌++◌, length, map, ap, sym, subst, ◌∙◌}
+use Rattle.std.proofs.Common.{◌≡◌, ◌<◌, ℕ, List, Result, Ok, Err, ◌++◌, length, map, ap, sym, subst, ◌∙◌}
 use Rattle.std.proofs.lemmas.List.{length-map}
 use Rattle.java_tree.specs.declared.tree.SourceUnit.{SourceUnit}
 use Rattle.java_tree.specs.View.{unit_plain}
-use Rattle.class_world.specs.declared.world.JavaType.{JavaType}
 use Rattle.java_core.specs.Plain as core
 use Rattle.java_core.specs.declared.program.CoreProgram.{CoreProgram}
 use Rattle.java_core.specs.View.{file_plain, program_plain}
@@ -20,10 +19,10 @@ use Rattle.type_facts.specs.declared.questions.Questions.{Questions}
 use Rattle.type_facts.specs.Facts.{Facts}
 use Rattle.check_program.specs.Typing.{program}
 use Rattle.unchecked_ops.specs.Programs.{AreFileFacts}
-use Rattle.unchecked_ops.specs.declared.program.Operation.{Operation}
+use Rattle.checker.specs.declared.check.CheckedProgram.{CheckedProgram}
 use Rattle.checker.specs.declared.fault.CheckFault.{CheckFault}
 use Rattle.checker.specs.declared.fault.CheckFault.TheVariants as fault
-use Rattle.checker.specs.Checking.{AreAllFacts, IsChecked, IsCheckedBy, type_fault}
+use Rattle.checker.specs.Checking.{AreAllFacts, IsChecked, IsCheckedBy, IsWellTyped, type_fault}
 use Rattle.checker.specs.Flows.{IsJudged}
 use Rattle.checker.proofs.Counts.{as_many_files}
 use Rattle.checker.proofs.Facts.{are_asked, are_files}
@@ -46,15 +45,14 @@ module _ (p : Program) (q : Questions) (names : List (List ℕ)) (us ls : List S
       let many : length (map file_plain x.files) ≡ length (us ++ ls) = counted ∙ length-map (us ++ ls) unit_plain in
       asked k (subst (λ n. k < n) many within)
 
-  pub judged : (x : CoreProgram) (r : Result (List Operation) CheckFault)
+  pub judged : (x : CoreProgram) (r : Result CheckedProgram CheckFault)
       → ((fs : ℕ → Facts) → AreFileFacts q (length (us ++ ls)) fs → program fs (map unit_plain (us ++ ls)) ≡ Fine (program_plain x))
       → IsJudged q (program_plain x) r → IsCheckedBy p q.world.now r
-  judged x (Ok operations) fine is_so = record {
-    core = program_plain x;
+  judged x (Ok c) fine is_so = subst (λ (y : core.Program). IsWellTyped p q.world.now y c.operations) (sym is_so.0) (record {
     checked = checked (Fine (program_plain x)) fine;
-    flows = is_so.0;
-    unchecked = λ fs all casts are. is_so.1 fs (of_files x fine fs all) casts are;
-  }
+    flows = is_so.1;
+    unchecked = λ fs all casts are. is_so.2 fs (of_files x fine fs all) casts are;
+  })
   judged x (Err (fault.Flow n r)) fine is_so = record { core = program_plain x; checked = checked (Fine (program_plain x)) fine; first = is_so }
   judged x (Err (fault.Type n r)) fine is_so = absurd is_so
   judged x (Err fault.NoMemory) fine is_so = tt

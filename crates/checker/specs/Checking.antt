@@ -19,10 +19,12 @@ use Rattle.unchecked_ops.specs.Casting.{AreCasts}
 use Rattle.unchecked_ops.specs.Programs.{program_ops}
 use Rattle.check_program.specs.Typing.{program}
 use Rattle.java_core.specs.Plain as core
+use Rattle.java_core.specs.View.{program_plain}
 use Rattle.checked.specs.Checked.{Checked, Fine, Broken}
 use Rattle.checked.specs.declared.stop.Stop.{Stop}
 use Rattle.checked.specs.declared.stop.Stop.TheVariants as stop
 use Rattle.unchecked_ops.specs.declared.program.Operation.{Operation}
+use Rattle.checker.specs.declared.check.CheckedProgram.{CheckedProgram}
 use Rattle.checker.specs.declared.fault.CheckFault.{CheckFault}
 use Rattle.checker.specs.declared.fault.CheckFault.TheVariants as fault
 use Rattle.checker.specs.Flows.{IsFlow}
@@ -57,12 +59,11 @@ abbrev pub AreUnchecked : Program → World → core.Program → List Operation 
 AreUnchecked p w c operations =
     (fs : ℕ → Facts) → AreAllFacts p w fs → (casts : JavaType → JavaType → Bool) → AreCasts w casts → operations ≡ program_ops fs casts c
 
--- no rule on types or flow is broken, and these are the unchecked operations
-pub record IsWellTyped (p : Program) (w : World) (operations : List Operation) : Type 0 where
-  pub core : core.Program
-  pub checked : IsChecked p w (Fine core)
-  pub flows : IsFlow w core None
-  pub unchecked : AreUnchecked p w core operations
+-- no rule on types or flow is broken, and these are the core and its unchecked operations
+pub record IsWellTyped (p : Program) (w : World) (x : core.Program) (operations : List Operation) : Type 0 where
+  pub checked : IsChecked p w (Fine x)
+  pub flows : IsFlow w x None
+  pub unchecked : AreUnchecked p w x operations
 
 -- this is the first broken rule on types, at this node
 abbrev pub IsIllTyped : Program → World → (node rule : ℕ) → Type 0
@@ -80,8 +81,8 @@ type_fault (stop.Broken node rule) = fault.Type node rule
 type_fault stop.NoMemory = fault.NoMemory
 
 -- nothing is said where memory ran out
-abbrev pub IsCheckedBy : Program → World → Result (List Operation) CheckFault → Type 0
-IsCheckedBy p w (Ok operations) = IsWellTyped p w operations
+abbrev pub IsCheckedBy : Program → World → Result CheckedProgram CheckFault → Type 0
+IsCheckedBy p w (Ok x) = IsWellTyped p w (program_plain x.core) x.operations
 IsCheckedBy p w (Err (fault.Type node rule)) = IsIllTyped p w node rule
 IsCheckedBy p w (Err (fault.Flow node rule)) = IsIllFlowing p w node rule
 IsCheckedBy p w (Err fault.NoMemory) = Unit {0}

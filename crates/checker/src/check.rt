@@ -30,6 +30,13 @@ use type_facts::Questions;
 use type_names::TypeNames;
 use unchecked_ops::{Operation, program_operations};
 
+/// A program that breaks no rule: its core, and its unchecked operations as they stand in the files.
+#[derive(Drop)]
+pub struct CheckedProgram {
+    pub core: CoreProgram,
+    pub operations: Items<Operation>,
+}
+
 /// The first broken rule on flow, F1 to F12.
 fn first_flaw(alloc: Global, world: &World, program: &CoreProgram) -> Result<Option<Flaw>, NoMemory>
     requires { IsSound world.now }
@@ -40,23 +47,26 @@ fn first_flaw(alloc: Global, world: &World, program: &CoreProgram) -> Result<Opt
     Ok(earlier(unreached(program), earlier(unassigned, unhandled)))
 }
 
-/// The unchecked operations of a program that breaks no rule on types, or the first broken rule on flow.
+/// A core that breaks no rule on types, with its unchecked operations, or the first broken rule on flow.
 fn flowing(
     alloc: Global,
     q: &Questions<'_>,
-    program: &CoreProgram,
-) -> Result<Items<Operation>, CheckFault>
+    core: CoreProgram,
+) -> Result<CheckedProgram, CheckFault>
     requires ready { IsReady q.now }
-    ensures { flows.IsJudged q.now (program_plain program.now) result }
+    ensures { flows.IsJudged q.now (program_plain core) result }
 {
-    match first_flaw(alloc, q.world, program)? {
+    match first_flaw(alloc, q.world, &core)? {
         Some(Flaw { node, rule }) => Err(CheckFault::Flow { node, rule }),
-        None => Ok(program_operations(alloc, q, program)?),
+        None => {
+            let operations = program_operations(alloc, q, &core)?;
+            Ok(CheckedProgram { core, operations })
+        }
     }
 }
 
-/// Checks the program of these user files and library files, whose declarations have this world and these members: its unchecked operations, as they stand in the
-/// files, or the first broken rule. The table has the names that the built-in types need.
+/// Checks the program of these user files and library files, whose declarations have this world and these members: its core with its unchecked operations, or the
+/// first broken rule. The table has the names that the built-in types need.
 pub fn check_files(
     alloc: Global,
     world: &World,
@@ -64,7 +74,7 @@ pub fn check_files(
     names: &Names,
     user: &[SourceUnit],
     lib: &[SourceUnit],
-) -> Result<Items<Operation>, CheckFault>
+) -> Result<CheckedProgram, CheckFault>
     requires sound { IsSound world.now }
     requires members { HoldsMembers world.now members.now }
     requires distinct { AreDistinct names.now }
@@ -80,7 +90,7 @@ pub fn check_files(
         length_name: length_name(names),
     };
     match check_program(alloc, &questions, user, lib) {
-        Ok(core) => flowing(alloc, &questions, &core),
+        Ok(core) => flowing(alloc, &questions, core),
         Err(stop) => Err(type_fault(stop)),
     }
 }

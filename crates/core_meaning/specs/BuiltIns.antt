@@ -1,5 +1,7 @@
 -- The types that a program has without declaring them, by their numbers, and their members, by theirs.
 use Rattle.std.specs.Prelude.{ℕ, Bool, true, false, List, [], ◌∷◌, ◌++◌, Option, slice_get}
+use Rattle.core_meaning.specs.declared.built_ins.BuiltIn.{BuiltIn}
+use Rattle.core_meaning.specs.declared.built_ins.BuiltIn.TheVariants.{NewObject, NewThrowable, ObjectToString, ObjectEquals, ObjectHashCode, Length, CharAt, SubstringFrom, SubstringBetween, CompareTo, StringEquals, StringHashCode, StringToString, Print, PrintChars, PrintLine, GetMessage, ThrowableToString}
 
 -- ---- types
 
@@ -50,31 +52,6 @@ abbrev pub out_field : ℕ
 out_field = 0
 
 -- ---- methods and constructors
-
-pub data BuiltIn : Type 0 where
-  -- Object's constructor, and one of a throwable, with a message or without
-  NewObject : BuiltIn
-  NewThrowable : (message : Bool) → BuiltIn
-  -- of Object
-  ObjectToString : BuiltIn
-  ObjectEquals : BuiltIn
-  ObjectHashCode : BuiltIn
-  -- of String
-  Length : BuiltIn
-  CharAt : BuiltIn
-  SubstringFrom : BuiltIn
-  SubstringBetween : BuiltIn
-  CompareTo : BuiltIn
-  StringEquals : BuiltIn
-  StringHashCode : BuiltIn
-  StringToString : BuiltIn
-  -- of PrintStream: of a value, of a char[], and println() of nothing; `line` says that a line feed follows
-  Print : (line : Bool) → BuiltIn
-  PrintChars : (line : Bool) → BuiltIn
-  PrintLine : BuiltIn
-  -- of Throwable
-  GetMessage : BuiltIn
-  ThrowableToString : BuiltIn
 
 -- the two constructors of a throwable
 abbrev pub throwable : List BuiltIn

@@ -10,7 +10,9 @@ use Rattle.core_meaning.specs.declared.values.Ending.{Ending}
 use Rattle.core_meaning.specs.declared.values.Ending.TheVariants.{Goes, Breaks, Continues, Returns}
 use Rattle.core_meaning.specs.declared.values.Progress.{Progress}
 use Rattle.core_meaning.specs.declared.values.Progress.TheVariants as progress
-use Rattle.core_meaning.specs.State.{Frame, State, held, with_frame, with_static, with_progress, with_entered}
+use Rattle.core_meaning.specs.declared.values.Frame.{Frame}
+use Rattle.core_meaning.specs.declared.values.State.{State}
+use Rattle.core_meaning.specs.State.{in_static, with_frame, with_static, with_progress, with_entered}
 use Rattle.core_meaning.specs.BuiltIns.{error_class, exception_in_initializer_error, no_class_def_found_error}
 use Rattle.core_meaning.specs.Outcome.{Outcome, Gives, Threw, Bound, and_then, throws_plain, misfit, with_some, choose, step, leave}
 use Rattle.core_meaning.specs.Code.{Code, Body, Written, Default, body_of, class_at, class_fields, superclass, is_instance_field, is_constant}
@@ -50,7 +52,7 @@ body p (Default m) s = ran (begun p m [] s)
 -- the initialiser of a static field that is no constant field
 abbrev pub given : Place → ℕ → Option e.Expr → State → Outcome (Unit {0})
 given p f None s = Gives tt s
-given p f (Some x) s = and_then (value p x s) (λ a s. with_some (held f s.statics) s (λ old. Gives tt (with_static f a s)))
+given p f (Some x) s = and_then (value p x s) (λ a s. with_some (in_static f s) s (λ old. Gives tt (with_static f a s)))
 
 abbrev pub has_initialiser : Code → ℕ → Bool
 has_initialiser c f = not (is_instance_field c.world f || is_constant c f)

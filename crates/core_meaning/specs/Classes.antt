@@ -11,7 +11,10 @@ use Rattle.class_world.specs.declared.world.JavaType.TheOpen.{JavaType-F}
 use Rattle.class_world.specs.declared.world.JavaType.TheFolds.{fold-JavaType}
 use Rattle.core_meaning.specs.declared.values.Value.{Value}
 use Rattle.core_meaning.specs.declared.values.Value.TheVariants as v
-use Rattle.core_meaning.specs.State.{Thing, Object, Array, State}
+use Rattle.core_meaning.specs.declared.values.Thing.{Thing}
+use Rattle.core_meaning.specs.declared.values.State.{State}
+use Rattle.core_meaning.specs.declared.values.Thing.TheVariants.{Object, Array}
+use Rattle.core_meaning.specs.State.{thing_at}
 use Rattle.core_meaning.specs.BuiltIns.{object_class, string_class}
 use Rattle.core_meaning.specs.Code.{Code}
 
@@ -54,6 +57,10 @@ abbrev pub name_of : Code → Thing → List ℕ
 name_of c (Object k hs m) = full_name c k
 name_of c (Array t xs) = array_name c t
 
+-- that of the class of what has a number
+abbrev pub name_at : Code → ℕ → State → Option (List ℕ)
+name_at c r s = option_map (name_of c) (thing_at r s)
+
 -- ---- what a value is
 
 -- the class in which a method of an object or array is looked up
@@ -62,7 +69,7 @@ class_of_thing (Object k hs m) = k
 class_of_thing (Array t xs) = object_class
 
 abbrev pub class_of : Value → State → Option ℕ
-class_of (v.Ref r) s = option_map class_of_thing (slice_get s.heap r)
+class_of (v.Ref r) s = option_map class_of_thing (thing_at r s)
 class_of (v.Text k) s = Some string_class
 class_of _ s = None
 
@@ -72,6 +79,6 @@ type_of_thing (Array t xs) = ty.Array t
 
 -- the type that a reference has at run time; null has none
 abbrev pub type_of : Value → State → Option JavaType
-type_of (v.Ref r) s = option_map type_of_thing (slice_get s.heap r)
+type_of (v.Ref r) s = option_map type_of_thing (thing_at r s)
 type_of (v.Text k) s = Some (ty.Class string_class [])
 type_of _ s = None

@@ -22,7 +22,9 @@ use Rattle.type_kinds.specs.Members.{field_at, is_interface, is_static_field, is
 use Rattle.type_kinds.specs.OfWorld.{AreBoth}
 use Rattle.core_meaning.specs.declared.values.Value.{Value}
 use Rattle.core_meaning.specs.declared.values.Value.TheVariants as v
-use Rattle.core_meaning.specs.State.{Held, Thing, Object}
+use Rattle.core_meaning.specs.declared.values.Held.{Held}
+use Rattle.core_meaning.specs.declared.values.Thing.{Thing}
+use Rattle.core_meaning.specs.declared.values.Thing.TheVariants.{Object}
 use Rattle.core_meaning.specs.Texts.{number_units, truth_units, null_units}
 
 -- The world, the texts of names by number, and the core; `found` is the method that runs for a method on an object of a class, and `sub` the order of types.

@@ -10,13 +10,17 @@ use Rattle.java_core.specs.Plain as e
 use Rattle.type_kinds.specs.Kinds.{class_number, element}
 use Rattle.core_meaning.specs.declared.values.Value.{Value}
 use Rattle.core_meaning.specs.declared.values.Value.TheVariants as v
-use Rattle.core_meaning.specs.State.{Array, State, with_thing, with_thing_at}
+use Rattle.core_meaning.specs.declared.values.Variable.{Variable}
+use Rattle.core_meaning.specs.declared.values.Variable.TheVariants as of
+use Rattle.core_meaning.specs.declared.values.State.{State}
+use Rattle.core_meaning.specs.declared.values.Thing.TheVariants.{Array}
+use Rattle.core_meaning.specs.State.{item_count, with_thing, with_array}
 use Rattle.core_meaning.specs.Numbers.{as_kind, operated, prefixed, stepped}
 use Rattle.core_meaning.specs.Texts.{number_units}
 use Rattle.core_meaning.specs.BuiltIns.{negative_array_size_exception}
-use Rattle.core_meaning.specs.Outcome.{Outcome, Gives, and_then, throws_saying, misfit, with_some, with_reference, with_array, by_truth, with_made}
+use Rattle.core_meaning.specs.Outcome.{Outcome, Gives, and_then, throws_saying, misfit, with_some, with_reference, by_truth, with_made}
 use Rattle.core_meaning.specs.Code.{default_value, new_object, is_join_of, joined_literal}
-use Rattle.core_meaning.specs.Variables.{Place, fitted, implied_cast, cast, instance_of, Variable, ALocal, AField, AStatic, AnItem, read, store}
+use Rattle.core_meaning.specs.Variables.{Place, fitted, implied_cast, cast, instance_of, read, store}
 use Rattle.core_meaning.specs.Members.{new_text, literal, text_of, invoked, called}
 
 abbrev pub said : e.Written → JavaType
@@ -61,7 +65,7 @@ repeated (suc n) one s = and_then (one s) (λ x s. and_then (repeated n one s) (
 abbrev pub array_with : JavaType → (length : ℕ) → (State → Outcome (List Value)) → State → Outcome Value
 array_with t n items s =
     let r = length s.heap in
-    and_then (items (with_thing (Array t (replicate n (default_value t))) s)) (λ xs s. Gives (v.Ref r) (with_thing_at r (Array t xs) s))
+    and_then (items (with_thing (Array t (replicate n (default_value t))) s)) (λ xs s. Gives (v.Ref r) (with_array r t xs s))
 
 -- arrays of these sizes, the outer before its inner ones; behind the last size stand first values
 abbrev pub arrays_of : List ℕ → JavaType → State → Outcome Value
@@ -77,7 +81,7 @@ abbrev pub sized : JavaType → List Value → State → Outcome Value
 sized t xs s = with_some (ints_of xs) s (λ zs. unless_negative (find (λ z. int_lt z (pos 0)) zs) (arrays_of (map unsigned_abs zs) t) s)
 
 abbrev pub array_length : Value → State → Outcome Value
-array_length a s = with_reference a s (λ r. with_array r s (λ t xs. Gives (v.Int (pos (length xs))) s))
+array_length a s = with_reference a s (λ r. with_some (item_count r s) s (λ n. Gives (v.Int (pos n)) s))
 
 abbrev pub count : e.Exprs → ℕ
 count e.End = 0
@@ -120,15 +124,15 @@ abbrev mutual
   value_form p t (e.Truth b) s = Gives (v.Truth b) s
   value_form p t e.Null s = Gives v.Null s
   value_form p t e.This s = Gives s.frame.this s
-  value_form p t (e.Local k) s = read p (ALocal k) s
+  value_form p t (e.Local k) s = read p (of.Local k) s
   value_form p t (e.Paren x) s = value p x s
   value_form p t (e.Widen x) s = and_then (value p x s) (fitted t)
   value_form p t (e.Implied x) s = and_then (value p x s) (implied_cast p t)
-  value_form p t (e.Field x simple f) s = and_then (value p x s) (λ a s. read p (AField a f) s)
-  value_form p t (e.SuperField f) s = read p (AField s.frame.this f) s
-  value_form p t (e.StaticField before x f) s = and_then (dropped p x s) (λ u s. read p (AStatic f) s)
+  value_form p t (e.Field x simple f) s = and_then (value p x s) (λ a s. read p (of.Field a f) s)
+  value_form p t (e.SuperField f) s = read p (of.Field s.frame.this f) s
+  value_form p t (e.StaticField before x f) s = and_then (dropped p x s) (λ u s. read p (of.Static f) s)
   value_form p t (e.Length x) s = and_then (value p x s) array_length
-  value_form p t (e.Index x y) s = and_then (value p x s) (λ a s. and_then (value p y s) (λ i s. read p (AnItem a i) s))
+  value_form p t (e.Index x y) s = and_then (value p x s) (λ a s. and_then (value p y s) (λ i s. read p (of.Item a i) s))
   value_form p t (e.Call x simple m xs) s = and_then (value p x s) (λ a s. and_then (values p xs s) (λ ys s. called p m a ys s))
   value_form p t (e.SuperCall m xs) s = and_then (values p xs s) (λ ys s. invoked p m s.frame.this ys s)
   value_form p t (e.StaticCall before x m xs) s = and_then (dropped p x s) (λ u s. and_then (values p xs s) (called_static p m))
@@ -164,11 +168,11 @@ abbrev mutual
   variable p (e.At n t x) s = variable_form p x s
 
   pub variable_form : Place → e.Form → State → Outcome Variable
-  variable_form p (e.Local k) s = Gives (ALocal k) s
-  variable_form p (e.Field x simple f) s = and_then (value p x s) (λ a s. Gives (AField a f) s)
-  variable_form p (e.SuperField f) s = Gives (AField s.frame.this f) s
-  variable_form p (e.StaticField before x f) s = and_then (dropped p x s) (λ u s. Gives (AStatic f) s)
-  variable_form p (e.Index x y) s = and_then (value p x s) (λ a s. and_then (value p y s) (λ i s. Gives (AnItem a i) s))
+  variable_form p (e.Local k) s = Gives (of.Local k) s
+  variable_form p (e.Field x simple f) s = and_then (value p x s) (λ a s. Gives (of.Field a f) s)
+  variable_form p (e.SuperField f) s = Gives (of.Field s.frame.this f) s
+  variable_form p (e.StaticField before x f) s = and_then (dropped p x s) (λ u s. Gives (of.Static f) s)
+  variable_form p (e.Index x y) s = and_then (value p x s) (λ a s. and_then (value p y s) (λ i s. Gives (of.Item a i) s))
   variable_form p (e.Paren x) s = variable p x s
   variable_form p (e.Implied x) s = variable p x s
   variable_form p _ s = misfit s

@@ -1,18 +1,20 @@
 -- The members of built-in types, and the methods that the language calls by itself. Built-in members take no step and are not listed as entered; methods of the program
 -- that they call are.
-use Rattle.std.specs.Prelude.{ℕ, ℤ, pos, Bool, true, false, ◌&&◌, ◌||◌, ◌==◌, List, [], ◌∷◌, ◌++◌, length, Option, Some, None, slice_get, slice_range, if◌then◌else◌, codes, int_lt, int_le, unsigned_abs}
+use Rattle.std.specs.Prelude.{ℕ, ℤ, pos, Bool, true, false, ◌&&◌, ◌||◌, List, [], ◌∷◌, ◌++◌, length, Option, Some, None, slice_get, slice_range, option_and_then, codes, int_lt, int_le, unsigned_abs}
 use Rattle.std.specs.Int.{w32, int_wrap}
-use Rattle.std.specs.List.{position_or_len}
+use Rattle.std.specs.List.{find}
 use Rattle.std.specs.Option.{option_map}
 use Rattle.core_meaning.specs.declared.values.Value.{Value}
 use Rattle.core_meaning.specs.declared.values.Value.TheVariants as v
-use Rattle.core_meaning.specs.State.{Object, State, Text, with_text, with_thing_at, with_printed}
+use Rattle.core_meaning.specs.declared.values.State.{State}
+use Rattle.core_meaning.specs.State.{message_of, items_of, with_text, with_literal, with_message, with_printed}
 use Rattle.core_meaning.specs.Numbers.{same_reference}
-use Rattle.core_meaning.specs.Texts.{number_units, truth_units, null_units, hex_units, same_units, is_literal, hash_of, difference, length_of, printed_bytes}
-use Rattle.core_meaning.specs.BuiltIns as b
-use Rattle.core_meaning.specs.BuiltIns.{BuiltIn, built_in, to_string, hash_code, get_message, string_index_exception}
-use Rattle.core_meaning.specs.Outcome.{Outcome, Gives, and_then, throws_saying, misfit, with_some, with_reference, unless_null, with_object, with_array, with_units, with_int, choose}
-use Rattle.core_meaning.specs.Classes.{name_of, class_of}
+use Rattle.core_meaning.specs.Texts.{number_units, truth_units, null_units, hex_units, same_units, is_text, hash_of, difference, length_of, printed_bytes}
+use Rattle.core_meaning.specs.declared.built_ins.BuiltIn.{BuiltIn}
+use Rattle.core_meaning.specs.declared.built_ins.BuiltIn.TheVariants as b
+use Rattle.core_meaning.specs.BuiltIns.{built_in, to_string, hash_code, get_message, string_index_exception}
+use Rattle.core_meaning.specs.Outcome.{Outcome, Gives, and_then, throws_saying, misfit, with_some, with_reference, unless_null, with_units, with_int, choose}
+use Rattle.core_meaning.specs.Classes.{name_at, class_of}
 use Rattle.core_meaning.specs.Variables.{Place}
 
 -- ---- strings
@@ -21,13 +23,13 @@ use Rattle.core_meaning.specs.Variables.{Place}
 abbrev pub new_text : List ℕ → State → Outcome Value
 new_text units s = Gives (v.Text (length s.texts)) (with_text units s)
 
-abbrev pub literal_at : ℕ → List ℕ → State → Outcome Value
-literal_at k units s =
-    Gives (v.Text k) (record s { texts = if k == length s.texts then s.texts ++ record { units = units; literal = true } ∷ [] else s.texts })
+abbrev pub literal_at : Option ℕ → List ℕ → State → Outcome Value
+literal_at None units s = Gives (v.Text (length s.texts)) (with_literal units s)
+literal_at (Some k) units s = Gives (v.Text k) s
 
 -- The string of a literal: equal literals are one object (JLS 3.10.5).
 abbrev pub literal : List ℕ → State → Outcome Value
-literal units s = literal_at (position_or_len (is_literal units) s.texts) units s
+literal units s = literal_at (find (is_text units s.texts) s.literals) units s
 
 -- ---- arguments
 
@@ -66,7 +68,7 @@ substring units x y s = choose (is_no_begin x units) (throws_saying string_index
 
 -- an object that is no string is not equal to one, nor is null
 abbrev pub equals_text : List ℕ → Value → State → Outcome Value
-equals_text units (v.Text k) s = with_some (slice_get s.texts k) s (λ (x : Text). Gives (v.Truth (same_units units x.units)) s)
+equals_text units (v.Text k) s = with_some (slice_get s.texts k) s (λ xs. Gives (v.Truth (same_units units xs)) s)
 equals_text units _ s = Gives (v.Truth false) s
 
 -- Objects and arrays are numbered in order of allocation; the low 32 bits of the number are the identity hash.
@@ -74,8 +76,9 @@ abbrev pub identity_hash : Value → State → Outcome Value
 identity_hash (v.Ref r) s = Gives (v.Int (int_wrap w32 (pos r))) s
 identity_hash _ s = misfit s
 
-abbrev pub with_message : Value → Value → State → Outcome Value
-with_message a m s = with_reference a s (λ r. with_object r s (λ c hs old. Gives v.Null (with_thing_at r (Object c hs m) s)))
+-- a new throwable takes its message
+abbrev pub saying : Value → Value → State → Outcome Value
+saying a m s = with_reference a s (λ r. with_some (message_of r s) s (λ old. Gives v.Null (with_message r m s)))
 
 -- prints a string; a void method answers null, which nobody reads
 abbrev pub printed : (line : Bool) → List ℕ → State → Outcome Value
@@ -88,13 +91,13 @@ chars_of (v.Char c ∷ xs) = option_map (λ cs. c ∷ cs) (chars_of xs)
 chars_of _ = None
 
 abbrev pub print_chars : (line : Bool) → Value → State → Outcome Value
-print_chars line a s = with_reference a s (λ r. with_array r s (λ t xs. with_some (chars_of xs) s (λ units. printed line units s)))
+print_chars line a s = with_reference a s (λ r. with_some (option_and_then chars_of (items_of r s)) s (λ units. printed line units s))
 
 -- `a` is the object and `xs` the arguments
 abbrev pub plain : BuiltIn → (a : Value) → (xs : List Value) → State → Outcome Value
 plain b.NewObject a xs s = with_none xs s (Gives v.Null s)
 plain (b.NewThrowable false) a xs s = with_none xs s (Gives v.Null s)
-plain (b.NewThrowable true) a xs s = with_one xs s (λ m. with_message a m s)
+plain (b.NewThrowable true) a xs s = with_one xs s (λ m. saying a m s)
 plain b.ObjectEquals a xs s = with_one xs s (λ x. with_some (same_reference a x) s (λ y. Gives (v.Truth y) s))
 plain b.ObjectHashCode a xs s = with_none xs s (identity_hash a s)
 plain b.Length a xs s = with_none xs s (with_units a s (λ units. Gives (v.Int (length_of units)) s))
@@ -107,7 +110,7 @@ plain b.StringHashCode a xs s = with_none xs s (with_units a s (λ units. Gives 
 plain b.StringToString a xs s = with_none xs s (Gives a s)
 plain (b.PrintChars line) a xs s = with_one xs s (λ x. print_chars line x s)
 plain b.PrintLine a xs s = with_none xs s (printed true [] s)
-plain b.GetMessage a xs s = with_none xs s (with_reference a s (λ r. with_object r s (λ c hs m. Gives m s)))
+plain b.GetMessage a xs s = with_none xs s (with_reference a s (λ r. with_some (message_of r s) s (λ m. Gives m s)))
 plain _ a xs s = misfit s
 
 -- ---- members that call hashCode() and getMessage()
@@ -127,8 +130,8 @@ asked does p m a s = found_on p m a s (λ k. entered_or does (built_in k) p k a 
 
 -- the name of the class, `@` and what hashCode() answers
 abbrev pub object_text : Place → Value → State → Outcome Value
-object_text p a s = with_reference a s (λ r. with_some (slice_get s.heap r) s (λ x.
-    and_then (asked plain p hash_code a s) (λ h s. with_int h s (λ z. new_text (name_of p.code x ++ codes "@" ++ hex_units z) s))))
+object_text p a s = with_reference a s (λ r. with_some (name_at p.code r s) s (λ name.
+    and_then (asked plain p hash_code a s) (λ h s. with_int h s (λ z. new_text (name ++ codes "@" ++ hex_units z) s))))
 
 abbrev pub said : List ℕ → Value → State → Outcome Value
 said name v.Null s = new_text name s
@@ -136,8 +139,8 @@ said name m s = with_units m s (λ units. new_text (name ++ codes ": " ++ units)
 
 -- the name of the class, and behind `: ` what getMessage() answers, where that is not null
 abbrev pub throwable_text : Place → Value → State → Outcome Value
-throwable_text p a s = with_reference a s (λ r. with_some (slice_get s.heap r) s (λ x.
-    and_then (asked plain p get_message a s) (λ m s. said (name_of p.code x) m s)))
+throwable_text p a s = with_reference a s (λ r. with_some (name_at p.code r s) s (λ name.
+    and_then (asked plain p get_message a s) (λ m s. said name m s)))
 
 abbrev pub speaking : Place → BuiltIn → Value → List Value → State → Outcome Value
 speaking p b.ObjectToString a xs s = with_none xs s (object_text p a s)
@@ -149,7 +152,7 @@ speaking p x a xs s = plain x a xs s
 -- null is told as `null`, an answer of toString() too
 abbrev pub told : Value → State → Outcome (List ℕ)
 told v.Null s = Gives null_units s
-told (v.Text k) s = with_some (slice_get s.texts k) s (λ (x : Text). Gives x.units s)
+told (v.Text k) s = with_some (slice_get s.texts k) s (λ xs. Gives xs s)
 told _ s = misfit s
 
 -- the string of any value

@@ -12,6 +12,8 @@ use Rattle.java_core.specs.declared.expr.Kind.{Kind}
 use Rattle.java_core.specs.declared.expr.Kind.TheVariants as kind
 use Rattle.core_meaning.specs.declared.values.Value.{Value}
 use Rattle.core_meaning.specs.declared.values.Value.TheVariants as v
+use Rattle.core_meaning.specs.declared.values.Made.{Made}
+use Rattle.core_meaning.specs.declared.values.Made.TheVariants.{Makes, ByZero, NoRule}
 
 -- ---- conversions (5.1.2, 5.1.3, 5.5)
 
@@ -42,12 +44,6 @@ as_kind kind.Reference a = Some a
 as_kind kind.Text a = Some a
 
 -- ---- what operators make
-
--- a value; nothing, where a divisor is zero; nothing, since the operator has no rule for what it meets
-pub data Made : Type 0 where
-  Makes : Value → Made
-  ByZero : Made
-  NoRule : Made
 
 -- Shifts by the low bits of the distance (15.19): 5 of them for int, 6 for long. `bits` are those of the left operand's type.
 abbrev pub shifted : Width → (bits : ℕ) → (ℤ → Value) → BinOp → ℤ → (distance : ℕ) → Made

@@ -1,12 +1,15 @@
 -- How a piece of a program ends, and the few ways to go on from it.
 use Rattle.std.specs.Prelude.{ℕ, zero, suc, ℤ, Bool, true, false, List, [], length, codes, Option, Some, None, slice_get}
-use Rattle.class_world.specs.declared.world.JavaType.{JavaType}
 use Rattle.core_meaning.specs.declared.values.Value.{Value}
 use Rattle.core_meaning.specs.declared.values.Value.TheVariants as v
 use Rattle.core_meaning.specs.declared.values.Ending.{Ending}
 use Rattle.core_meaning.specs.declared.values.Ending.TheVariants as ending
-use Rattle.core_meaning.specs.State.{Held, Thing, Object, Array, Frame, State, with_frame, with_thing, with_text, gone_wrong}
-use Rattle.core_meaning.specs.Numbers.{Made, Makes, ByZero, NoRule}
+use Rattle.core_meaning.specs.declared.values.Frame.{Frame}
+use Rattle.core_meaning.specs.declared.values.State.{State}
+use Rattle.core_meaning.specs.declared.values.Thing.TheVariants.{Object}
+use Rattle.core_meaning.specs.State.{with_frame, with_thing, with_text, gone_wrong}
+use Rattle.core_meaning.specs.declared.values.Made.{Made}
+use Rattle.core_meaning.specs.declared.values.Made.TheVariants.{Makes, ByZero, NoRule}
 use Rattle.core_meaning.specs.BuiltIns.{null_pointer_exception, class_cast_exception, arithmetic_exception}
 
 -- with a value, with the number of a thrown object, or at the bound; each with the state after it
@@ -61,26 +64,10 @@ abbrev pub unless_null : {B : Type 0} → Value → State → Outcome B → Outc
 unless_null v.Null s o = throws_plain null_pointer_exception s
 unless_null _ s o = o
 
--- with the parts of an object
-abbrev pub of_object : {B : Type 0} → Thing → State → (ℕ → List Held → Value → Outcome B) → Outcome B
-of_object (Object c hs m) s f = f c hs m
-of_object (Array t xs) s f = misfit s
-
-abbrev pub with_object : {B : Type 0} → ℕ → State → (ℕ → List Held → Value → Outcome B) → Outcome B
-with_object r s f = with_some (slice_get s.heap r) s (λ x. of_object x s f)
-
--- with the parts of an array
-abbrev pub of_array : {B : Type 0} → Thing → State → (JavaType → List Value → Outcome B) → Outcome B
-of_array (Object c hs m) s f = misfit s
-of_array (Array t xs) s f = f t xs
-
-abbrev pub with_array : {B : Type 0} → ℕ → State → (JavaType → List Value → Outcome B) → Outcome B
-with_array r s f = with_some (slice_get s.heap r) s (λ x. of_array x s f)
-
 -- with the units of a string; null throws
 abbrev pub with_units : {B : Type 0} → Value → State → (List ℕ → Outcome B) → Outcome B
 with_units v.Null s f = throws_plain null_pointer_exception s
-with_units (v.Text k) s f = with_some (slice_get s.texts k) s (λ x. f x.units)
+with_units (v.Text k) s f = with_some (slice_get s.texts k) s f
 with_units _ s f = misfit s
 
 -- with an int

@@ -1,6 +1,7 @@
 -- The run of a program: its main method with arguments, within a number of steps; and what is reported of it.
-use Rattle.std.specs.Prelude.{ℕ, zero, suc, ◌+◌, ◌==◌, Bool, false, not, ◌&&◌, List, [], ◌∷◌, ◌++◌, map, flat_map, length, Option, Some, None, is_some, slice_get, unwrap_or, codes, decimal, if◌then◌else◌}
+use Rattle.std.specs.Prelude.{ℕ, zero, suc, ◌+◌, ◌==◌, Bool, false, not, ◌&&◌, List, [], ◌∷◌, ◌++◌, map, flat_map, length, Option, Some, None, is_some, slice_get, take, option_and_then, unwrap_or, codes, decimal, if◌then◌else◌}
 use Rattle.std.specs.List.{find}
+use Rattle.std.specs.Option.{option_map}
 use Rattle.std.specs.Str.{bytes_eq}
 use Rattle.java_tree.specs.declared.tree.Mod.TheVariants as mods
 use Rattle.class_world.specs.declared.world.World.{World}
@@ -18,7 +19,8 @@ use Rattle.core_meaning.specs.declared.values.Progress.{Progress}
 use Rattle.core_meaning.specs.declared.values.Progress.TheVariants as progress
 use Rattle.core_meaning.specs.declared.values.End.{End}
 use Rattle.core_meaning.specs.declared.values.End.TheVariants as end
-use Rattle.core_meaning.specs.State.{Held, Object, Array, State}
+use Rattle.core_meaning.specs.declared.values.State.{State}
+use Rattle.core_meaning.specs.declared.values.Thing.TheVariants.{Object, Array}
 use Rattle.core_meaning.specs.Texts.{units_of_bytes}
 use Rattle.core_meaning.specs.BuiltIns.{print_stream, string_class, out_field, object_class}
 use Rattle.core_meaning.specs.Outcome.{Outcome, Gives, Threw, Bound, after, and_then, with_some, choose}
@@ -33,10 +35,10 @@ use Rattle.core_meaning.specs.Calls.{enter, initialise, place_at, entered_with, 
 abbrev pub first_static : ℕ → JavaType → Value
 first_static f t = if f == out_field then v.Ref 0 else default_value t
 
--- the static fields among those from number f on
-abbrev pub statics_from : World → ℕ → List FieldInfo → List Held
+-- what the fields from number f on hold, where they are static
+abbrev pub statics_from : World → ℕ → List FieldInfo → List (Option Value)
 statics_from w f [] = []
-statics_from w f (i ∷ is) = if is_static_field w i then record { field = f; value = first_static f i.ty } ∷ statics_from w (f + 1) is else statics_from w (f + 1) is
+statics_from w f (i ∷ is) = (if is_static_field w i then Some (first_static f i.ty) else None) ∷ statics_from w (f + 1) is
 
 -- a type that no file declares needs no initialisation
 abbrev pub first_progress : TypeInfo → Progress
@@ -52,7 +54,8 @@ abbrev pub start : Code → (args : List (List ℕ)) → (n : ℕ) → State
 start c args n = record {
   left = n;
   heap = Object print_stream [] v.Null ∷ Array (ty.Class string_class []) (arguments 0 (length args)) ∷ [];
-  texts = map (λ a. record { units = units_of_bytes a; literal = false }) args;
+  texts = map units_of_bytes args;
+  literals = [];
   statics = statics_from c.world 0 c.world.fields;
   progress = map first_progress c.world.types;
   frame = entered_with v.Null [];
@@ -96,6 +99,26 @@ main_among c (Some i) = find (is_main c) i.methods
 -- the main method that a class declares
 abbrev pub main_of : Code → (class : ℕ) → Option ℕ
 main_of c k = main_among c (slice_get c.world.types k)
+
+-- ---- the class that is run
+
+-- what the first files declare, so many
+abbrev pub user_classes : Code → (users : ℕ) → List e.Class
+user_classes c users = classes_of (take users c.core.files)
+
+abbrev pub type_name : Code → Option TypeInfo → List ℕ
+type_name c None = []
+type_name c (Some i) = text_of_name c i.name
+
+abbrev pub is_named : Code → List ℕ → e.Class → Bool
+is_named c name x = bytes_eq (type_name c (slice_get c.world.types x.number)) name
+
+abbrev pub if_main : Code → e.Class → Option ℕ
+if_main c x = option_map (λ m. x.number) (main_of c x.number)
+
+-- the user's class of this name, where it declares a main method
+abbrev pub main_class : Code → (users : ℕ) → (name : List ℕ) → Option ℕ
+main_class c users name = option_and_then (if_main c) (find (is_named c name) (user_classes c users))
 
 -- ---- the run
 

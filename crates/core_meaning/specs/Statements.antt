@@ -8,13 +8,15 @@ use Rattle.java_core.specs.Plain as e
 use Rattle.type_kinds.specs.Kinds.{ty_of, element}
 use Rattle.core_meaning.specs.declared.values.Value.{Value}
 use Rattle.core_meaning.specs.declared.values.Value.TheVariants as v
+use Rattle.core_meaning.specs.declared.values.Variable.TheVariants as of
 use Rattle.core_meaning.specs.declared.values.Ending.{Ending}
 use Rattle.core_meaning.specs.declared.values.Ending.TheVariants.{Goes, Breaks, Continues, Returns}
-use Rattle.core_meaning.specs.State.{State, with_local}
-use Rattle.core_meaning.specs.Outcome.{Outcome, Gives, Threw, and_then, with_some, with_reference, with_array, choose, by_truth, and_goes, behind_switch, loop, do_loop, finally, rescued}
+use Rattle.core_meaning.specs.declared.values.State.{State}
+use Rattle.core_meaning.specs.State.{items_of, with_local}
+use Rattle.core_meaning.specs.Outcome.{Outcome, Gives, Threw, and_then, with_some, with_reference, choose, by_truth, and_goes, behind_switch, loop, do_loop, finally, rescued}
 use Rattle.core_meaning.specs.Code.{class_at, class_fields, is_instance_field}
 use Rattle.core_meaning.specs.Classes.{type_of}
-use Rattle.core_meaning.specs.Variables.{Place, fitted, implied_cast, is_below, AField, store}
+use Rattle.core_meaning.specs.Variables.{Place, fitted, implied_cast, is_below, store}
 use Rattle.core_meaning.specs.Members.{invoked, called}
 use Rattle.core_meaning.specs.Expressions.{value, values}
 
@@ -54,40 +56,40 @@ and_updates (Returns a) updates s = Gives (Returns a) s
 -- ---- the enhanced for (14.14.2)
 
 -- The variable takes a value; the turn begins behind it.
-abbrev pub taken : e.Var → Value → State → Outcome Bool
-taken x a s = and_then (fitted x.ty a s) (λ a s. Gives true (with_local x.slot a s))
+abbrev pub taken : (slot : ℕ) → (type : JavaType) → Value → State → Outcome Bool
+taken k u a s = and_then (fitted u a s) (λ a s. Gives true (with_local k a s))
 
 -- of a number of items in all, the next one, if there is one
-abbrev pub take_item : e.Var → Option Value → State → Outcome Bool
-take_item x None s = Gives false s
-take_item x (Some a) s = taken x a s
+abbrev pub take_item : (slot : ℕ) → (type : JavaType) → Option Value → State → Outcome Bool
+take_item k u None s = Gives false s
+take_item k u (Some a) s = taken k u a s
 
-abbrev pub item_before : e.Var → Value → ℕ → State → Outcome Bool
-item_before x a i s = with_reference a s (λ r. with_array r s (λ t xs. take_item x (slice_get xs i) s))
+abbrev pub item_before : (slot : ℕ) → (type : JavaType) → Value → ℕ → State → Outcome Bool
+item_before k u a i s = with_reference a s (λ r. with_some (items_of r s) s (λ xs. take_item k u (slice_get xs i) s))
 
 abbrev pub cast_if : Bool → Place → JavaType → Value → State → Outcome Value
 cast_if true p t a s = implied_cast p t a s
 cast_if false p t a s = Gives a s
 
 -- hasNext(), and where it says so next(), its implied cast and the storing of the variable
-abbrev pub next_before : Place → Walk → e.Var → JavaType → Bool → Value → State → Outcome Bool
-next_before p w x t implied a s = and_then (called p w.has_next a [] s) (λ b s. by_truth b
-    (λ s. and_then (called p w.next a [] s) (λ y s. and_then (cast_if implied p t y s) (taken x)))
+abbrev pub next_before : Place → Walk → (slot : ℕ) → (type : JavaType) → JavaType → Bool → Value → State → Outcome Bool
+next_before p w k u t implied a s = and_then (called p w.has_next a [] s) (λ b s. by_truth b
+    (λ s. and_then (called p w.next a [] s) (λ y s. and_then (cast_if implied p t y s) (taken k u)))
     (λ s. Gives false s) s)
 
 -- over what is no array: iterator() is called once
-abbrev pub walked : Place → Option Walk → e.Var → JavaType → Bool → Value → (State → Outcome Ending) → State → Outcome Ending
-walked p w x t implied a body s = with_some w s (λ w. and_then (called p w.iterator a [] s) (λ it s.
-    loop p.turns 0 (λ i. next_before p w x t implied it) body s))
+abbrev pub walked : Place → Option Walk → (slot : ℕ) → (type : JavaType) → JavaType → Bool → Value → (State → Outcome Ending) → State → Outcome Ending
+walked p w k u t implied a body s = with_some w s (λ w. and_then (called p w.iterator a [] s) (λ it s.
+    loop p.turns 0 (λ i. next_before p w k u t implied it) body s))
 
 -- over an array: it is evaluated once, and so is its length
-abbrev pub each_item : Place → e.Var → Value → (State → Outcome Ending) → State → Outcome Ending
-each_item p x a body s = with_reference a s (λ r. loop p.turns 0 (item_before x a) body s)
+abbrev pub each_item : Place → (slot : ℕ) → (type : JavaType) → Value → (State → Outcome Ending) → State → Outcome Ending
+each_item p k u a body s = with_reference a s (λ r. loop p.turns 0 (item_before k u a) body s)
 
 -- by the type of what is gone over
-abbrev pub each : Option JavaType → Place → e.Var → JavaType → Bool → Value → (State → Outcome Ending) → State → Outcome Ending
-each (Some u) p x t implied a body s = each_item p x a body s
-each None p x t implied a body s = walked p p.code.world.walk x t implied a body s
+abbrev pub each : Option JavaType → Place → (slot : ℕ) → (type : JavaType) → JavaType → Bool → Value → (State → Outcome Ending) → State → Outcome Ending
+each (Some v) p k u t implied a body s = each_item p k u a body s
+each None p k u t implied a body s = walked p p.code.world.walk k u t implied a body s
 
 -- ---- switch (14.11)
 
@@ -126,7 +128,7 @@ begins_at z gs = chosen (has_group (has_label z) gs) z
 
 abbrev pub filled : Place → ℕ → Option e.Expr → State → Outcome Ending
 filled p f None s = Gives Goes s
-filled p f (Some x) s = and_then (value p x s) (λ a s. done (store p (AField s.frame.this f) a s))
+filled p f (Some x) s = and_then (value p x s) (λ a s. done (store p (of.Field s.frame.this f) a s))
 
 -- the initialisers of the class's instance fields, in text order
 abbrev pub all_filled : Place → List e.FieldVar → State → Outcome Ending
@@ -150,7 +152,7 @@ abbrev mutual
   stmt p (e.Do n y x) s = do_loop p.turns (stmt p y) (tested p x) s
   stmt p (e.For n xs x us y) s = and_then (stmts p xs s) (λ f s.
       loop p.turns 0 (λ i. tested_or p x) (λ s. and_then (stmt p y s) (λ g s. and_updates g (λ s. done (values p us s)) s)) s)
-  stmt p (e.ForEach n is_final w x y t implied z) s = and_then (value p y s) (λ a s. each (element (ty_of y)) p x t implied a (stmt p z) s)
+  stmt p (e.ForEach n is_final w x y t implied z) s = and_then (value p y s) (λ a s. each (element (ty_of y)) p x.slot x.ty t implied a (stmt p z) s)
   stmt p (e.Switch n x gs) s = and_then (value p x s) (λ a s. with_some (selector a) s (λ z. behind_switch (from_group p (begins_at z gs) gs s)))
   stmt p (e.Break n) s = Gives Breaks s
   stmt p (e.Continue n) s = Gives Continues s

@@ -1,11 +1,10 @@
 -- Strings as lists of UTF-16 units: what numbers and truth values say, how strings compare, and what is printed of them.
-use Rattle.std.specs.Prelude.{ℕ, ◌==◌, ℤ, pos, negsuc, suc, neg_ℤ, ◌+ℤ◌, ◌-ℤ◌, ◌*ℤ◌, Bool, true, false, ◌&&◌, List, [], ◌∷◌, flat_map, length, Option, Some, None, if◌then◌else◌, codes, chars, decimal, encode_utf8}
+use Rattle.std.specs.Prelude.{ℕ, ◌==◌, ℤ, pos, negsuc, suc, neg_ℤ, ◌+ℤ◌, ◌-ℤ◌, ◌*ℤ◌, Bool, true, false, List, [], ◌∷◌, flat_map, length, Option, Some, None, slice_get, if◌then◌else◌, codes, chars, decimal, encode_utf8}
 use Rattle.std.specs.Int.{w32, cast_unsigned, int_wrap}
 use Rattle.std.specs.Fmt.{digits}
 use Rattle.std.specs.Char.Escape.{encode_utf16}
 use Rattle.std.specs.Char.Utf16.{utf16_chars}
 use Rattle.std.specs.Str.{bytes_eq}
-use Rattle.core_meaning.specs.State.{Text}
 
 -- an int or a long in decimal
 abbrev pub number_units : ℤ → List ℕ
@@ -26,9 +25,13 @@ hex_units z = digits 16 false (cast_unsigned w32 z)
 abbrev pub same_units : List ℕ → List ℕ → Bool
 same_units xs ys = bytes_eq xs ys
 
--- the string of a literal with these units
-abbrev pub is_literal : List ℕ → Text → Bool
-is_literal units x = x.literal && same_units units x.units
+abbrev pub same_text : List ℕ → Option (List ℕ) → Bool
+same_text units None = false
+same_text units (Some xs) = same_units units xs
+
+-- whether the string of this identity has these units
+abbrev pub is_text : List ℕ → (texts : List (List ℕ)) → ℕ → Bool
+is_text units texts k = same_text units (slice_get texts k)
 
 -- the sum of s[i] * 31 ^ (n - 1 - i), in int arithmetic; `h` is that of the units before
 abbrev pub hash_from : ℤ → List ℕ → ℤ

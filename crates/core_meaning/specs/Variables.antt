@@ -1,5 +1,5 @@
 -- Variables: how they are read and take values (JLS 15.11 to 15.13, 15.26), and casts, which ask what an object is (5.5, 15.16, 15.20.2).
-use Rattle.std.specs.Prelude.{ℕ, ℤ, pos, negsuc, Bool, true, false, nat_lt, List, length, Option, Some, None, slice_get, slice_set, if◌then◌else◌}
+use Rattle.std.specs.Prelude.{ℕ, ℤ, pos, negsuc, Bool, true, false, nat_lt, List, Option, Some, None, if◌then◌else◌}
 use Rattle.java_tree.specs.declared.tree.Primitive.{Primitive}
 use Rattle.class_world.specs.declared.world.FieldInfo.{FieldInfo}
 use Rattle.class_world.specs.declared.world.JavaType.{JavaType}
@@ -8,11 +8,14 @@ use Rattle.type_kinds.specs.Kinds.{primitive}
 use Rattle.type_kinds.specs.Members.{field_at}
 use Rattle.core_meaning.specs.declared.values.Value.{Value}
 use Rattle.core_meaning.specs.declared.values.Value.TheVariants as v
-use Rattle.core_meaning.specs.State.{Object, Array, State, held, with_held, in_slot, with_local, with_static, with_thing_at}
+use Rattle.core_meaning.specs.declared.values.Variable.{Variable}
+use Rattle.core_meaning.specs.declared.values.Variable.TheVariants as x
+use Rattle.core_meaning.specs.declared.values.State.{State}
+use Rattle.core_meaning.specs.State.{in_slot, in_static, field_of, element_of, item_count, item_of, with_local, with_static, with_field, with_item}
 use Rattle.core_meaning.specs.Numbers.{as_primitive}
 use Rattle.core_meaning.specs.Texts.{number_units}
 use Rattle.core_meaning.specs.BuiltIns.{class_cast_exception, array_store_exception, array_index_exception}
-use Rattle.core_meaning.specs.Outcome.{Outcome, Gives, and_then, throws_plain, throws_saying, misfit, with_some, with_reference, with_object, with_array, with_int, choose}
+use Rattle.core_meaning.specs.Outcome.{Outcome, Gives, and_then, throws_plain, throws_saying, misfit, with_some, with_reference, with_int, choose}
 use Rattle.core_meaning.specs.Code.{Code, is_constant}
 use Rattle.core_meaning.specs.Classes.{type_of}
 
@@ -74,9 +77,8 @@ at_place None z s f = throws_saying array_index_exception (number_units z) s
 at_place (Some k) z s f = f k
 
 -- the array and the place of an item: null test, then bounds test (15.13.1)
-abbrev pub with_item : {B : Type 0} → (of at : Value) → State → (ℕ → JavaType → List Value → ℕ → Outcome B) → Outcome B
-with_item a i s f =
-    with_reference a s (λ r. with_array r s (λ t xs. with_int i s (λ z. at_place (index_in z (length xs)) z s (λ k. f r t xs k))))
+abbrev pub at_item : {B : Type 0} → (of at : Value) → State → (ℕ → ℕ → Outcome B) → Outcome B
+at_item a i s f = with_reference a s (λ r. with_some (item_count r s) s (λ n. with_int i s (λ z. at_place (index_in z n) z s (f r))))
 
 abbrev pub may_hold : Code → JavaType → Value → State → (State → Outcome Value) → Outcome Value
 may_hold c t v.Null s go = go s
@@ -92,13 +94,6 @@ storable c t a s go = storable_by (primitive t) c t a s go
 
 -- ---- variables
 
--- a variable, where what stands before it is evaluated
-pub data Variable : Type 0 where
-  ALocal : (slot : ℕ) → Variable
-  AField : (of : Value) → (field : ℕ) → Variable
-  AStatic : (field : ℕ) → Variable
-  AnItem : (of at : Value) → Variable
-
 abbrev pub ready_by : Bool → Place → ℕ → State → Outcome (Unit {0})
 ready_by true p f s = Gives tt s
 ready_by false p f s = with_some (field_at p.code.world f) s (λ (i : FieldInfo). p.initialise i.owner s)
@@ -109,16 +104,15 @@ ready p f s = ready_by (is_constant p.code f) p f s
 
 -- what a variable holds
 abbrev pub read : Place → Variable → State → Outcome Value
-read p (ALocal k) s = with_some (in_slot k s.frame) s (λ a. Gives a s)
-read p (AField of f) s = with_reference of s (λ r. with_object r s (λ c hs m. with_some (held f hs) s (λ a. Gives a s)))
-read p (AStatic f) s = and_then (ready p f s) (λ u s. with_some (held f s.statics) s (λ a. Gives a s))
-read p (AnItem of at) s = with_item of at s (λ r t xs k. with_some (slice_get xs k) s (λ a. Gives a s))
+read p (x.Local k) s = with_some (in_slot k s.frame) s (λ a. Gives a s)
+read p (x.Field of f) s = with_reference of s (λ r. with_some (field_of r f s) s (λ a. Gives a s))
+read p (x.Static f) s = and_then (ready p f s) (λ u s. with_some (in_static f s) s (λ a. Gives a s))
+read p (x.Item of at) s = at_item of at s (λ r k. with_some (item_of r k s) s (λ a. Gives a s))
 
 -- A variable takes a value, which is the value of the assignment.
 abbrev pub store : Place → Variable → Value → State → Outcome Value
-store p (ALocal k) a s = Gives a (with_local k a s)
-store p (AField of f) a s =
-    with_reference of s (λ r. with_object r s (λ c hs m. with_some (held f hs) s (λ old. Gives a (with_thing_at r (Object c (with_held f a hs) m) s))))
-store p (AStatic f) a s = and_then (ready p f s) (λ u s. with_some (held f s.statics) s (λ old. Gives a (with_static f a s)))
-store p (AnItem of at) a s =
-    with_item of at s (λ r t xs k. storable p.code t a s (λ s. Gives a (with_thing_at r (Array t (slice_set xs k a)) s)))
+store p (x.Local k) a s = Gives a (with_local k a s)
+store p (x.Field of f) a s = with_reference of s (λ r. with_some (field_of r f s) s (λ old. Gives a (with_field r f a s)))
+store p (x.Static f) a s = and_then (ready p f s) (λ u s. with_some (in_static f s) s (λ old. Gives a (with_static f a s)))
+store p (x.Item of at) a s =
+    at_item of at s (λ r k. with_some (element_of r s) s (λ t. storable p.code t a s (λ s. Gives a (with_item r k a s))))

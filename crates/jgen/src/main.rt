@@ -22,8 +22,12 @@ jgen: refactorings of Java programs, proved to keep what the programs do
   jgen check -- FILES [+ LIBRARY FILES]
       Checks that the files are a program that breaks no rule, and names its
       unchecked operations.
-  Other commands (run, allowed, extract-interface, pull-up,
-  infer-type-arguments, workload) are read and refused as N1, not built yet.
+  jgen run N CLASS [= ARGS] -- FILES [+ LIBRARY FILES]
+      Checks the files as above, and runs the main method of CLASS, a class of the
+      FILES, with ARGS. A step is an entry of a method or constructor, or a turn of
+      a loop; the run ends where N steps, 100000000 at most, are not enough.
+  Other commands (allowed, extract-interface, pull-up, infer-type-arguments,
+  workload) are read and refused as N1, not built yet.
   jgen --help
   jgen --version
 
@@ -32,6 +36,9 @@ What is reported, a line each:
   done K edits                   the last line of a change
   unchecked PLACE                an unchecked operation of a program
   checked K files                the last line of a check, library files counted
+  printed K                      the first line of a run, which printed K bytes;
+                                 behind it these bytes, and on a line of its own
+  end HOW                        how it ended: normal, threw CLASS or bound
   refused RULE PLACE             the first rule or constraint that stands against it
   usage RULE                     the lowest rule that the words break
   missing NAME, read fault NAME, write fault NAME
@@ -40,6 +47,7 @@ Exit status:
   0 done   1 refused   2 usage   3 a file is missing   4 a read failed
   5 a write failed   6 the report could not be printed   7 memory ran out
   8 the words could not be had (no memory, or not UTF-8)
+  10 the run ended with a thrown object   11 no step was left
 
 Example, in the folder examples/first:
   jgen generalize out A.java 5 5 A -- A.java";

@@ -3,8 +3,8 @@ use Rattle.std.proofs.Common.{◌≡◌, ℕ, inl, inr, List, [], ◌∷◌, ref
 use Rattle.std.proofs.lemmas.Fmt.{decimal_injective}
 use Rattle.command_words.specs.Names.{IsNumber}
 use Rattle.command_words.specs.Table.{parts_of}
-use Rattle.refactor_app.specs.Words.{Files, Request, Asks, AsksCheck, Uses}
-use Rattle.refactor_app.proofs.OneSense.{change_or_check}
+use Rattle.refactor_app.specs.Words.{Files, Request, Asks, AsksCheck, AsksSteps, Uses}
+use Rattle.refactor_app.proofs.OneSense.{change_or_check, change_or_run, check_or_run}
 
 one_number : (w : List ℕ) (m n : ℕ) → IsNumber w m → IsNumber w n → m ≡ n
 one_number w m n a b = decimal_injective m n (omega (arith, a.1)) (omega (arith, b.1)) (sym a.0 ∙ b.0)
@@ -41,8 +41,26 @@ one_check ws a b x y =
     let rest : x.rest ≡ y.rest = let all = sym x.are ∙ y.are in cc in
     of_words x.rest y.rest a b rest x.users x.libs y.users y.libs
 
+one_run : (ws : List (List ℕ)) (m n : ℕ) (a b : Files) → AsksSteps ws a m → AsksSteps ws b n → a ≡ b
+one_run ws m n a b x y =
+    let rest : x.asks.rest ≡ y.asks.rest = let all = sym x.asks.are ∙ y.asks.are in cc in
+    of_words x.asks.rest y.asks.rest a b rest x.asks.users x.asks.libs y.asks.users y.asks.libs
+
+-- and for so many steps
+pub one_steps : (ws : List (List ℕ)) (m n : ℕ) (a b : Files) → AsksSteps ws a m → AsksSteps ws b n → m ≡ n
+one_steps ws m n a b x y =
+    let rest : x.asks.rest ≡ y.asks.rest = let all = sym x.asks.are ∙ y.asks.are in cc in
+    let own : x.asks.count ∷ x.class ∷ x.asks.more ≡ y.asks.count ∷ y.class ∷ y.asks.more = sym x.asks.own ∙ ap (λ (r : List (List ℕ)). (parts_of r).own) rest ∙ y.asks.own in
+    let count : x.asks.count ≡ y.asks.count = cc in
+    one_number x.asks.count m n x.asks.at_steps (subst (λ (w : List ℕ). IsNumber w n) (sym count) y.asks.at_steps)
+
 pub one_files : (ws : List (List ℕ)) (a b : Files) → Uses ws a → Uses ws b → a ≡ b
 one_files ws a b (inl (q, x, is)) (inl (r, y, so)) = sym is ∙ ap (λ (q : Request). q.files) (one_request ws q r x y) ∙ so
-one_files ws a b (inl (q, x, is)) (inr y) = absurd (change_or_check ws q b x y)
-one_files ws a b (inr x) (inl (q, y, is)) = absurd (change_or_check ws q a y x)
-one_files ws a b (inr x) (inr y) = one_check ws a b x y
+one_files ws a b (inl (q, x, is)) (inr (inl y)) = absurd (change_or_check ws q b x y)
+one_files ws a b (inl (q, x, is)) (inr (inr (n, y))) = absurd (change_or_run ws q n b x y)
+one_files ws a b (inr (inl x)) (inl (q, y, is)) = absurd (change_or_check ws q a y x)
+one_files ws a b (inr (inl x)) (inr (inl y)) = one_check ws a b x y
+one_files ws a b (inr (inl x)) (inr (inr (n, y))) = absurd (check_or_run ws a n b x y)
+one_files ws a b (inr (inr (n, x))) (inl (q, y, is)) = absurd (change_or_run ws q n a y x)
+one_files ws a b (inr (inr (n, x))) (inr (inl y)) = absurd (check_or_run ws b n a y x)
+one_files ws a b (inr (inr (m, x))) (inr (inr (n, y))) = one_run ws m n a b x y

@@ -1,6 +1,6 @@
 -- From what a call's parts ensure to the way that it goes.
-use Rattle.std.proofs.Common.{◌≡◌, ◌≢◌, ℕ, zero, suc, ◌+◌, ◌<◌, ◌≤◌, ◌⊎◌, inl, inr, true, Bool, List, [], ◌∷◌, ◌++◌, length, map, get_or, Option, Some, slice_get, Result, Ok, Err, IfOk, refl, sym, ◌∙◌, ap, subst, arith, length-append}
-use Rattle.std.specs.Prelude.{OnErr}
+use Rattle.std.proofs.Common.{◌≡◌, ◌≢◌, ℕ, zero, suc, ◌+◌, ◌<◌, ◌≤◌, ◌⊎◌, inl, inr, true, Bool, List, [], ◌∷◌, ◌++◌, length, map, get_or, Option, Some, None, slice_get, Result, Ok, Err, IfOk, refl, sym, ◌∙◌, ap, subst, arith, length-append}
+use Rattle.std.specs.Prelude.{IfNone, OnErr}
 use Rattle.std.specs.Str.{bytes_eq}
 use Rattle.std.specs.String.{string_bytes}
 use Rattle.std.specs.declared.string.String.{String}
@@ -22,8 +22,8 @@ use Rattle.unit_grammar.specs.Sizes as size
 use Rattle.command_words.specs.declared.request.Request as words_of
 use Rattle.command_words.specs.Asked as asked_words
 use Rattle.command_words.specs.declared.table.Command.{Command}
-use Rattle.command_words.specs.Table.{Parts, word_of}
-use Rattle.command_words.specs.Rules.{Meets}
+use Rattle.command_words.specs.Table.{Parts, role_of, word_of}
+use Rattle.command_words.specs.Rules.{FitsNumber, HasNumbers, HasShape, Meets}
 use Rattle.source_files.specs.declared.read.ReadStop.{ReadStop}
 use Rattle.source_files.specs.declared.read.ReadStop.TheVariants as read
 use Rattle.source_files.specs.declared.trees.TreeStop.{TreeStop}
@@ -34,30 +34,41 @@ use Rattle.source_files.specs.Answers as files
 use Rattle.refactor_app.specs.declared.status.Status.{Status}
 use Rattle.refactor_app.specs.declared.status.Status.TheVariants as s
 use Rattle.refactor_app.specs.declared.decide.Changed.{Changed}
-use Rattle.refactor_app.specs.Words.{Files, Request, inputs, IsAlone, Asks, AsksCheck, Uses, AskOther, out_name}
+use Rattle.refactor_app.specs.Words.{Files, Request, inputs, IsAlone, Asks, AsksCheck, AsksRun, AsksSteps, Uses, AskOther, out_name}
 use Rattle.refactor_app.specs.Verdicts.{Refuses, Changes}
 use Rattle.class_world.specs.declared.world.World.{World}
+use Rattle.java_core.specs.Plain as plain
+use Rattle.java_core.specs.View.{program_plain}
+use Rattle.built_in_types.specs.BuiltIns.{with_words}
+use Rattle.program_runs.specs.declared.answer.RunAnswer.{RunAnswer}
+use Rattle.program_runs.specs.declared.answer.RunAnswer.TheVariants as run
+use Rattle.program_runs.specs.Told.{IsRun}
 use Rattle.java_tree.specs.declared.fault.Broken.{Broken}
 use Rattle.unchecked_ops.specs.declared.program.Operation.{Operation}
 use Rattle.checker.specs.Checking.{IsWellTyped}
 use Rattle.refactor_app.specs.declared.declarations.Declared.{Declared}
 use Rattle.refactor_app.specs.Judged.{AreDeclaredAs}
+use Rattle.refactor_app.specs.declared.asked.AskedRun.{AskedRun}
 use Rattle.refactor_app.specs.declared.asked.Task.{Task}
 use Rattle.refactor_app.specs.declared.asked.Task.TheVariants as task
 use Rattle.refactor_app.specs.declared.check.CheckAnswer.{CheckAnswer}
 use Rattle.refactor_app.specs.declared.check.CheckAnswer.TheVariants as answer
-use Rattle.refactor_app.specs.Asked.{AsksTask, HasType, request_of, task_files}
+use Rattle.refactor_app.specs.Asked.{AreRunWords, AsksRunOf, AsksTask, HasRunWords, HasType, files_of, request_of, task_files, task_steps}
 use Rattle.refactor_app.specs.Declarations.{AreDeclared}
 use Rattle.refactor_app.specs.Checked.{Answers, AreAnswered, large_line}
 use Rattle.refactor_app.specs.Decided.{IsChange}
 use Rattle.refactor_app.specs.Refusals.{AsksFew, HasDeclared, IsCheckRefusal, IsLarge, Refusal}
 use Rattle.refactor_app.specs.Refusals as refusal
 use Rattle.refactor_app.specs.Checking.{Passes}
+use Rattle.refactor_app.specs.Running.{Runs, run_status}
+use Rattle.refactor_app.specs.Ran.{EndsRun, IsRunAnswer, RunsSo}
 use Rattle.refactor_app.specs.Answers.{Ends}
 use Rattle.refactor_app.specs.Course.{Moment, EndsAt, EndsWith, Finishes, Sequel, Course, IsAsked}
 use Rattle.refactor_app.specs.Course as way
 use Rattle.refactor_app.specs.Stops.{Stops, TellsStop, IsNamed}
+use Rattle.refactor_app.proofs.Asking.{one_steps}
 use Rattle.refactor_app.proofs.Declaring.{still_declared}
+use Rattle.refactor_app.proofs.OneSense.{change_or_run, check_or_run}
 
 pub refuse : (q : Request) (text : List ℕ) (x : CheckAnswer) (line bytes : List ℕ) (a b : Moment) (st : Status)
     → bytes ≡ line → Refuses q text line → b.holds ≡ a.holds → EndsAt a b bytes s.Refused st → Sequel q text x a b st
@@ -71,6 +82,10 @@ finished q text x a b st c is (inr h) =
     way.Sequel.fails is.changes (subst (λ (n : List ℕ). WhereTold a.holds b.holds (SameBut n)) is.name h.0) h.1 (subst (λ (l : List ℕ). EndsAt a b l s.WriteFault st) is.fault h.2)
 
 -- ---- what is held
+
+pub map_length : {X Y : Type 0} (f : X → Y) (xs : List X) → length (map f xs) ≡ length xs
+map_length f [] = refl
+map_length f (x ∷ xs) = ap suc (map_length f xs)
 
 pub held_long : (look : Option Look) (before : ℕ) (names texts : List (List ℕ)) → AreHeld look before names texts → length names ≡ length texts
 held_long look before [] texts h = sym (ap length h)
@@ -125,27 +140,93 @@ module _ (words : List (List ℕ)) (fs : Files) (texts names : List (List ℕ)) 
   refusal_told : (rule : Broken) → IsCheckRefusal h.declared.program w rule → IsCheckRefusal h.declared.program h.declared.world rule
   refusal_told rule broken = subst (λ (w : World). IsCheckRefusal h.declared.program w rule) (sym world) broken
 
-  typed_told : (operations : List Operation) → IsWellTyped h.declared.program w operations → IsWellTyped h.declared.program h.declared.world operations
-  typed_told operations well = subst (λ (w : World). IsWellTyped h.declared.program w operations) (sym world) well
+  typed_told : (core : plain.Program) (operations : List Operation) → IsWellTyped h.declared.program w core operations → IsWellTyped h.declared.program h.declared.world core operations
+  typed_told core operations well = subst (λ (w : World). IsWellTyped h.declared.program w core operations) (sym world) well
 
   -- what becomes of a check of files is what becomes of the call
   pub on_check : (x : CheckAnswer) → AsksCheck words fs → Answers fs texts units h.declared.program w x → b.holds ≡ a.holds → EndsWith a.put b.put a.faults b.faults x st → Course words a b st
   on_check (answer.Refused line) asks (rule, broken, is) same ends =
       way.Course.refuses (refusal.Refusal.checked fs texts names units rule (inl asks) h (refusal_told rule broken)) same (subst (λ (x : List ℕ). EndsAt a b x s.Refused st) is ends)
-  on_check (answer.Passed report) asks (operations, well, is) same ends =
+  on_check (answer.Passed report core) asks (operations, well, is) same ends =
       way.Course.checks {line = string_bytes report}
-      (record { fs = fs; texts = texts; names = names; units = units; operations = operations; asks = asks; declared = h; typed = typed_told operations well; is = is }) same ends
+      (record {
+        fs = fs;
+        texts = texts;
+        names = names;
+        units = units;
+        core = program_plain core;
+        operations = operations;
+        asks = asks;
+        declared = h;
+        typed = typed_told (program_plain core) operations well;
+        is = is;
+      }) same ends
+
+  module _ (r : AskedRun) (asks : AsksRunOf words r) (files : files_of r.inputs ≡ fs) (table : List (List ℕ)) (words_are : table ≡ with_words names) where
+    asks_steps : AsksSteps words fs r.steps
+    asks_steps = subst (λ (fs : Files). AsksSteps words fs r.steps) files (record { class = r.class.now; args = map string_bytes r.args.now; asks = asks })
+
+    run_told : (core : plain.Program) (x : RunAnswer) → IsRunAnswer w table r core x
+        → IsRun h.declared.world (with_words names) core (length fs.users) r.class.now (map string_bytes r.args.now) r.steps x
+    run_told core x is =
+        let users : length r.inputs.users.now ≡ length fs.users = sym (map_length string_bytes r.inputs.users.now) ∙ ap (λ (fs : Files). length fs.users) files in
+        subst (λ (w : World). IsRun w (with_words names) core (length fs.users) r.class.now (map string_bytes r.args.now) r.steps x) (sym world)
+        (subst (λ (ns : List (List ℕ)). IsRun w ns core (length fs.users) r.class.now (map string_bytes r.args.now) r.steps x) words_are
+        (subst (λ (n : ℕ). IsRun w table core n r.class.now (map string_bytes r.args.now) r.steps x) users is))
+
+    run_asked : AsksRun words r.steps r.class.now (map string_bytes r.args.now) fs
+    run_asked = subst (λ (fs : Files). AsksRun words r.steps r.class.now (map string_bytes r.args.now) fs) files asks
+
+    -- what becomes of a run of checked files is what becomes of the call
+    ran : (core : plain.Program) (operations : List Operation) (x : Result RunAnswer NoMemory) → IsWellTyped h.declared.program w core operations → IfOk x (IsRunAnswer w table r core)
+        → b.holds ≡ a.holds → EndsRun a.put b.put a.faults b.faults x st → Course words a b st
+    ran core operations (Ok run.NoMain) well is same ends =
+        way.Course.refuses (refusal.Refusal.s24 (record {
+          fs = fs;
+          texts = texts;
+          names = names;
+          units = units;
+          steps = r.steps;
+          class = r.class.now;
+          args = map string_bytes r.args.now;
+          asks = run_asked;
+          checked = record { declared = h; core = core; operations = operations; typed = typed_told core operations well };
+          none = run_told core run.NoMain is;
+        })) same ends
+    ran core operations (Ok (run.Ran line how)) well is same ends =
+        way.Course.runs {line = line} how (record {
+          fs = fs;
+          texts = texts;
+          names = names;
+          units = units;
+          steps = r.steps;
+          class = r.class.now;
+          args = map string_bytes r.args.now;
+          core = core;
+          operations = operations;
+          asks = run_asked;
+          declared = h;
+          typed = typed_told core operations well;
+          runs = run_told core (run.Ran line how) is;
+        }) same ends
+    ran core operations (Err e) well is same none = way.Course.no_memory same none.1 none.0
+
+    pub on_run : (x : CheckAnswer) → Answers fs texts units h.declared.program w x → b.holds ≡ a.holds → RunsSo w table r a.put b.put a.faults b.faults x st → Course words a b st
+    on_run (answer.Refused line) (rule, broken, is) same ends =
+        way.Course.refuses (refusal.Refusal.checked fs texts names units rule (inr (inl (r.steps, asks_steps))) h (refusal_told rule broken)) same
+        (subst (λ (x : List ℕ). EndsAt a b x s.Refused st) is ends)
+    on_run (answer.Passed report core) (operations, well, is) same (x, runs, ends) = ran (program_plain core) operations x well runs same ends
 
 -- a change that no small program answers
 pub on_large : (words : List (List ℕ)) (q : Request) (texts names : List (List ℕ)) (units : List SourceUnit) (a b : Moment) (st : Status) (w : World)
     (h : HasDeclared words a.holds q.files texts names units) → h.declared.world ≡ w → (x : CheckAnswer) → Asks words q → IsLarge q texts → Answers q.files texts units h.declared.program w x
     → b.holds ≡ a.holds → EndsAt a b (large_line x) s.Refused st → Course words a b st
 on_large words q texts names units a b st w h world (answer.Refused line) asks large (rule, broken, is) same ends =
-    way.Course.refuses (refusal.Refusal.checked q.files texts names units rule (inr (q, refl, asks, large)) h (refusal_told words q.files texts names units a b st w h world rule broken)) same
+    way.Course.refuses (refusal.Refusal.checked q.files texts names units rule (inr (inr (q, refl, asks, large))) h (refusal_told words q.files texts names units a b st w h world rule broken)) same
     (subst (λ (x : List ℕ). EndsAt a b x s.Refused st) is ends)
-on_large words q texts names units a b st w h world (answer.Passed report) asks large (operations, well, is) same ends =
+on_large words q texts names units a b st w h world (answer.Passed report core) asks large (operations, well, is) same ends =
     way.Course.refuses (refusal.Refusal.n2 q texts names units asks large
-    (record { declared = h; operations = operations; typed = typed_told words q.files texts names units a b st w h world operations well })) same ends
+    (record { declared = h; core = program_plain core; operations = operations; typed = typed_told words q.files texts names units a b st w h world (program_plain core) operations well })) same ends
 
 module _ (words : List (List ℕ)) (q : Request) (text : List ℕ) (names : List (List ℕ)) (u : SourceUnit) (a b : Moment) (st : Status) where
   asked : Asks words q → HasDeclared words a.holds q.files (text ∷ []) names (u ∷ []) → IsAlone q → (made : List ℕ) (e : Edit) → Changes q text made e → IsAsked words a q made e
@@ -162,10 +243,6 @@ module _ (words : List (List ℕ)) (q : Request) (text : List ℕ) (names : List
   on_alone w x asks declared world answered is (way.Sequel.writes {made = made} {e = e} c told ends) = way.Course.writes (asked asks declared is made e c) told ends
   on_alone w x asks declared world answered is (way.Sequel.fails {made = made} {e = e} c told rose ends) = way.Course.fails (asked asks declared is made e c) told rose ends
   on_alone w x asks declared world answered is (way.Sequel.no_memory e p none) = way.Course.no_memory e p none
-
-pub map_length : {X Y : Type 0} (f : X → Y) (xs : List X) → length (map f xs) ≡ length xs
-map_length f [] = refl
-map_length f (x ∷ xs) = ap suc (map_length f xs)
 
 pub trees_long : (names : List (List ℕ)) (first count : ℕ) (texts : List (List ℕ)) (units : List SourceUnit) (new : List (List ℕ))
     → AreTrees names first count texts units new → length units ≡ length texts
@@ -242,10 +319,24 @@ identifier_of words q asks =
 pub type_of : (words : List (List ℕ)) (t : Task) → AsksTask words t → HasType t
 type_of words (task.Change q) asks = identifier_of words (request_of q) asks
 type_of words (task.Check i) asks = tt
+type_of words (task.Run r) asks = tt
 
 pub uses_of : (words : List (List ℕ)) (t : Task) → AsksTask words t → Uses words (task_files t)
 uses_of words (task.Change q) asks = inl (request_of q, asks, refl)
-uses_of words (task.Check i) asks = inr asks
+uses_of words (task.Check i) asks = inr (inl asks)
+uses_of words (task.Run r) asks = inr (inr (r.steps, record { class = r.class.now; args = map string_bytes r.args.now; asks = asks }))
+
+-- only a run takes steps
+pub steps_of : (words : List (List ℕ)) (t : Task) (n : ℕ) → AsksTask words t → AsksSteps words (task_files t) n → n ≡ task_steps t
+steps_of words (task.Change q) n asks run = absurd (change_or_run words (request_of q) n (task_files (task.Change q)) asks run)
+steps_of words (task.Check i) n asks run = absurd (check_or_run words (files_of i) n (files_of i) asks run)
+steps_of words (task.Run r) n asks run = one_steps words n r.steps (files_of r.inputs) (files_of r.inputs) run (record { class = r.class.now; args = map string_bytes r.args.now; asks = asks })
+
+-- and where there are steps, it is a run
+pub run_of : (words : List (List ℕ)) (t : Task) → AsksTask words t → 0 < task_steps t → AsksSteps words (task_files t) (task_steps t)
+run_of words (task.Change q) asks some = absurd (omega (arith, some))
+run_of words (task.Check i) asks some = absurd (omega (arith, some))
+run_of words (task.Run r) asks some = record { class = r.class.now; args = map string_bytes r.args.now; asks = asks }
 
 -- the words ask for a check
 pub asks_check : (words : List (List ℕ)) (r : words_of.Request) → asked_words.Asks words r → r.command ≡ command.Check
@@ -258,14 +349,45 @@ asks_check words r asks is = record {
   meets = λ n. subst (λ (c : Command). Meets c (parts_of asks.rest) n) is (subst (λ (p : Parts). Meets r.command p n) (sym asks.parts_are) (asks.meets n));
 }
 
+-- the words ask for a run
+pub asks_run : (words : List (List ℕ)) (r : words_of.Request) (x : AskedRun) → asked_words.Asks words r → r.command ≡ command.Run → AreRunWords (map string_bytes r.own.now) x
+    → files_of x.inputs ≡ record { users = map string_bytes r.users.now; libs = map string_bytes r.libs.now } → AsksRunOf words x
+asks_run words r x asks is own files = record {
+  rest = asks.rest;
+  are = subst (λ (c : Command). words ≡ word_of c ∷ asks.rest) is asks.are;
+  count = own.count;
+  more = own.more;
+  own = ap (λ (p : Parts). p.own) asks.parts_are ∙ own.are;
+  at_steps = own.at_steps;
+  are_args = own.args;
+  users = ap (λ (p : Parts). p.users) asks.parts_are ∙ sym (ap (λ (f : Files). f.users) files);
+  libs = ap (λ (p : Parts). p.libs) asks.parts_are ∙ sym (ap (λ (f : Files). f.libs) files);
+  meets = λ n. subst (λ (c : Command). Meets c (parts_of asks.rest) n) is (subst (λ (p : Parts). Meets r.command p n) (sym asks.parts_are) (asks.meets n));
+}
+
+has_words : (own : List (List ℕ)) → 2 ≤ length own → ((i : ℕ) (w : List ℕ) → slice_get own i ≡ Some w → FitsNumber (role_of command.Run i) w) → HasRunWords own
+has_words [] long numbers = absurd (omega (arith, long))
+has_words (count ∷ []) long numbers = absurd (omega (arith, long))
+has_words (count ∷ class ∷ more) long numbers = record { count = count; class = class; more = more; are = refl; number = numbers 0 count refl }
+
+pub none_so : {A P Q : Type 0} (o : Option A) → (P → Q) → IfNone o P → IfNone o Q
+none_so None so is = so is
+none_so (Some x) so is = tt
+
+-- the own words of a run by the rules 2 and 3
+pub run_words : (r : words_of.Request) → r.command ≡ command.Run → HasShape r.command (asked_words.parts r) → HasNumbers r.command (asked_words.parts r) → HasRunWords (map string_bytes r.own.now)
+run_words r is shape numbers =
+    has_words (map string_bytes r.own.now) (subst (λ (c : Command). HasShape c (asked_words.parts r)) is shape).0.0 (subst (λ (c : Command). HasNumbers c (asked_words.parts r)) is numbers)
+
 -- the words ask for another command
-pub asks_other : (words : List (List ℕ)) (r : words_of.Request) → asked_words.Asks words r → r.command ≢ command.Generalize → r.command ≢ command.Check → AskOther words
-asks_other words r asks no_change no_check = record {
+pub asks_other : (words : List (List ℕ)) (r : words_of.Request) → asked_words.Asks words r → r.command ≢ command.Generalize → r.command ≢ command.Check → r.command ≢ command.Run → AskOther words
+asks_other words r asks no_change no_check no_run = record {
   command = r.command;
   rest = asks.rest;
   are = asks.are;
   no_change = no_change;
   no_check = no_check;
+  no_run = no_run;
   meets = λ n. subst (λ (p : Parts). Meets r.command p n) (sym asks.parts_are) (asks.meets n);
 }
 
@@ -362,6 +484,8 @@ module _ (words : List (List ℕ)) (a m b : Moment) (st : Status) (after : IsAft
       way.Course.refuses (subst (λ (look : Option Look). Refusal words look line) after.holds r) (same ∙ after.holds) (ends_from a m b line s.Refused st after.put after.faults ends)
   from_before (way.Course.checks {line = line} p same ends) =
       way.Course.checks (subst (λ (look : Option Look). Passes words look line) after.holds p) (same ∙ after.holds) (ends_from a m b line s.Done st after.put after.faults ends)
+  from_before (way.Course.runs {line = line} how p same ends) =
+      way.Course.runs how (subst (λ (look : Option Look). Runs words look line how) after.holds p) (same ∙ after.holds) (ends_from a m b line (run_status how) st after.put after.faults ends)
   from_before (way.Course.writes {q = q} {made = made} {e = x} c told ends) =
       way.Course.writes (asked_from q made x c) (subst (λ (h : Option Look). WhereTold h b.holds (PutsAt (out_name q) made)) after.holds told)
       (ends_from a m b (edit_report q.file x) s.Done st after.put after.faults ends)

@@ -1,10 +1,12 @@
 -- The answers of the call exclude each other.
-use Rattle.std.proofs.Common.{◌≡◌, ℕ, ◌≤◌, ◌⊎◌, inl, inr, List, Option, Some, length, refl, ap, subst, arith}
+use Rattle.std.proofs.Common.{◌≡◌, ℕ, ◌≤◌, ◌⊎◌, inl, inr, List, Option, Some, length, refl, sym, ap, subst, arith}
 use Rattle.tool_files.specs.Told.{Look}
-use Rattle.refactor_app.specs.Words.{Files, inputs, Uses, AskOther}
-use Rattle.refactor_app.specs.Refusals.{most_files, AsksFew}
-use Rattle.refactor_app.specs.Answers.{IsDone, IsChangeDone, IsRefused, IsUsage, IsMissing, IsReadFault, IsWriteFault}
-use Rattle.refactor_app.specs.Outcomes.{Outcome, Misused, Absent, Refused, Changed, Judged, ComesTo, AreTreeless, IsOfTypes, Excludes}
+use Rattle.refactor_app.specs.Words.{Files, inputs, AsksSteps, Uses, AskOther}
+use Rattle.refactor_app.specs.Refusals.{most_files, most_steps, AsksFew}
+use Rattle.core_meaning.specs.declared.values.End.{End}
+use Rattle.core_meaning.specs.declared.values.End.TheVariants as end
+use Rattle.refactor_app.specs.Answers.{IsBound, IsDone, IsChangeDone, IsRefused, IsRunEnded, IsThrew, IsUsage, IsMissing, IsReadFault, IsWriteFault}
+use Rattle.refactor_app.specs.Outcomes.{Outcome, Misused, Absent, Refused, Changed, Judged, Ended, ComesTo, AreTreeless, IsOfTypes, Excludes}
 use Rattle.refactor_app.proofs.Asking.{one_files}
 use Rattle.refactor_app.proofs.OneSense.{lowest_or_asks, other_or_asks}
 use Rattle.refactor_app.proofs.OneOutcome.{one_outcome}
@@ -16,6 +18,7 @@ sort (Absent name) = 1
 sort (Refused line) = 2
 sort (Changed q made e) = 3
 sort (Judged report) = 4
+sort (Ended report how) = 5
 
 both_refused : (words : List (List ℕ)) (old : Option Look) (a b : Outcome) → AreTreeless words old a b → sort a ≡ sort b
 both_refused words old (Refused x) (Refused y) t = refl
@@ -25,6 +28,7 @@ both_refused words old a b t = absurd t
 abbrev IsBefore : Outcome → Type 0
 IsBefore (Refused line) = ⊥
 IsBefore (Judged report) = ⊥
+IsBefore (Ended report how) = ⊥
 IsBefore _ = Unit {0}
 
 no_types : (words : List (List ℕ)) (old : Option Look) (a : Outcome) → IsBefore a → IsOfTypes words old a → ⊥
@@ -33,6 +37,7 @@ no_types words old (Absent name) is h = h
 no_types words old (Refused line) is h = is
 no_types words old (Changed q made e) is h = h
 no_types words old (Judged report) is h = is
+no_types words old (Ended report how) is h = is
 
 module _ (words : List (List ℕ)) (look : Look) where
   -- one of them is before the rules on types
@@ -52,7 +57,8 @@ module _ (words : List (List ℕ)) (look : Look) where
 
     usage_done : IsUsage words (Some look) new before after → IsDone words (Some look) now front back → ⊥
     usage_done u (inl v) = differ (Misused u.rule) (Changed v.q v.made v.edit) u.lowest v.change (inl tt) (λ e. omega (arith, e))
-    usage_done u (inr v) = differ (Misused u.rule) (Judged v.line) u.lowest v.passes (inl tt) (λ e. omega (arith, e))
+    usage_done u (inr (inl v)) = differ (Misused u.rule) (Judged v.line) u.lowest v.passes (inl tt) (λ e. omega (arith, e))
+    usage_done u (inr (inr v)) = differ (Misused u.rule) (Ended v.line _) u.lowest v.runs (inl tt) (λ e. omega (arith, e))
 
     usage_refused : IsUsage words (Some look) new before after → IsRefused words (Some look) now front back → ⊥
     usage_refused u v = differ (Misused u.rule) (Refused v.line) u.lowest v.refusal (inl tt) (λ e. omega (arith, e))
@@ -65,7 +71,8 @@ module _ (words : List (List ℕ)) (look : Look) where
 
     missing_done : IsMissing words (Some look) new before after → IsDone words (Some look) now front back → ⊥
     missing_done u (inl v) = differ (Absent u.name) (Changed v.q v.made v.edit) (absent u) v.change (inl tt) (λ e. omega (arith, e))
-    missing_done u (inr v) = differ (Absent u.name) (Judged v.line) (absent u) v.passes (inl tt) (λ e. omega (arith, e))
+    missing_done u (inr (inl v)) = differ (Absent u.name) (Judged v.line) (absent u) v.passes (inl tt) (λ e. omega (arith, e))
+    missing_done u (inr (inr v)) = differ (Absent u.name) (Ended v.line _) (absent u) v.runs (inl tt) (λ e. omega (arith, e))
 
     missing_usage : IsMissing words (Some look) new before after → IsUsage words (Some look) now front back → ⊥
     missing_usage u v = differ (Absent u.name) (Misused v.rule) (absent u) v.lowest (inl tt) (λ e. omega (arith, e))
@@ -82,11 +89,28 @@ module _ (words : List (List ℕ)) (look : Look) where
     refused_write_fault : IsRefused words (Some look) new before after → IsWriteFault words (Some look) now front back → ⊥
     refused_write_fault u v = differ (Refused u.line) (Changed v.q v.made v.edit) u.refusal v.change (inr tt) (λ e. omega (arith, e))
 
+    module _ (how : End) (u : IsRunEnded words (Some look) new before after how) where
+      ended_usage : IsUsage words (Some look) now front back → ⊥
+      ended_usage v = differ (Ended u.line how) (Misused v.rule) u.runs v.lowest (inr tt) (λ e. omega (arith, e))
+
+      ended_missing : (v : IsMissing words (Some look) now front back) → ComesTo words (Some look) (Absent v.name) → ⊥
+      ended_missing v is = differ (Ended u.line how) (Absent v.name) u.runs is (inr tt) (λ e. omega (arith, e))
+
+      ended_change : IsChangeDone words (Some look) now front back → ⊥
+      ended_change v = differ (Ended u.line how) (Changed v.q v.made v.edit) u.runs v.change (inr tt) (λ e. omega (arith, e))
+
+      ended_write_fault : IsWriteFault words (Some look) now front back → ⊥
+      ended_write_fault v = differ (Ended u.line how) (Changed v.q v.made v.edit) u.runs v.change (inr tt) (λ e. omega (arith, e))
+
 -- ---- a read fault
 
-pub fault_words : (words : List (List ℕ)) (fs gs : Files) → AsksFew words fs → (AskOther words → ⊥) × (Uses words gs → length (inputs gs) ≤ most_files)
-fault_words words fs gs few =
-    (λ other. other_or_asks words fs other few.uses, λ h. subst (λ (fs : Files). length (inputs fs) ≤ most_files) (one_files words fs gs few.uses h) few.few)
+pub fault_words : (words : List (List ℕ)) (fs gs : Files) → AsksFew words fs
+    → (AskOther words → ⊥) × (Uses words gs → length (inputs gs) ≤ most_files) × ((n : ℕ) → AsksSteps words gs n → n ≤ most_steps)
+fault_words words fs gs few = (
+  λ other. other_or_asks words fs other few.uses,
+  λ h. subst (λ (fs : Files). length (inputs fs) ≤ most_files) (one_files words fs gs few.uses h) few.few,
+  λ n h. few.short n (subst (λ (fs : Files). AsksSteps words fs n) (sym (one_files words fs gs few.uses (inr (inr (n, h))))) h),
+)
 
 -- ---- in the words of the law
 
@@ -98,3 +122,27 @@ missing = (missing_done, missing_refused, missing_write_fault)
 
 pub refused : Excludes IsRefused IsChangeDone × Excludes IsRefused IsWriteFault
 refused = (refused_done, refused_write_fault)
+
+-- a run that ended so
+module _ (how : End) where
+  abbrev EndedSo : List (List ℕ) → Option Look → Option Look → Option (List ℕ) → Option (List ℕ) → Type 0
+  EndedSo words old new before after = IsRunEnded words old new before after how
+
+  ended : Excludes EndedSo IsUsage × Excludes EndedSo IsMissing × Excludes EndedSo IsChangeDone × Excludes EndedSo IsWriteFault
+  ended = (
+    λ words look new now before after front back u v. ended_usage words look new now before after front back how u v,
+    λ words look new now before after front back u v. ended_missing words look new now before after front back how u v (absent words look now new front back before after v),
+    λ words look new now before after front back u v. ended_change words look new now before after front back how u v,
+    λ words look new now before after front back u v. ended_write_fault words look new now before after front back how u v,
+  )
+
+pub threw : Excludes IsThrew IsUsage × Excludes IsThrew IsMissing × Excludes IsThrew IsChangeDone × Excludes IsThrew IsWriteFault
+threw = (
+  λ words look new now before after front back u v. (ended (end.Threw u.class)).0 words look new now before after front back u.ended v,
+  λ words look new now before after front back u v. (ended (end.Threw u.class)).1 words look new now before after front back u.ended v,
+  λ words look new now before after front back u v. (ended (end.Threw u.class)).2 words look new now before after front back u.ended v,
+  λ words look new now before after front back u v. (ended (end.Threw u.class)).3 words look new now before after front back u.ended v,
+)
+
+pub bound : Excludes IsBound IsUsage × Excludes IsBound IsMissing × Excludes IsBound IsChangeDone × Excludes IsBound IsWriteFault
+bound = ended end.AtBound

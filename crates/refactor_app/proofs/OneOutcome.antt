@@ -1,5 +1,5 @@
 -- Words and files whose contents are told come to one outcome, but for the place of G1 and for what is said where a check was made.
-use Rattle.std.proofs.Common.{◌≡◌, ◌≢◌, ℕ, ◌<◌, ◌⊎◌, inl, inr, List, [], ◌∷◌, ◌++◌, length, Some, slice_get, refl, sym, ◌∙◌, ap, subst, arith, codes}
+use Rattle.std.proofs.Common.{◌≡◌, ◌≢◌, ℕ, ◌<◌, ◌≤◌, ◌⊎◌, inl, inr, List, [], ◌∷◌, ◌++◌, length, Some, slice_get, refl, sym, ◌∙◌, ap, subst, arith, codes}
 use Rattle.std.specs.Fmt.{decimal}
 use Rattle.java_tree.specs.Names.{IsTable, built_in_names}
 use Rattle.java_tree.proofs.Tables.{built_in_table}
@@ -12,14 +12,14 @@ use Rattle.source_files.specs.Held.{AreHeld, Stop, StopsAt, Missing, Failed, Too
 use Rattle.source_files.specs.Trees.{AreTrees, BreaksAt, Fault, Lexical, Tokens, LeftOut, NoTree}
 use Rattle.command_words.specs.Rules.{IsLowest}
 use Rattle.report_text.specs.Report.{refused, refused_at}
-use Rattle.refactor_app.specs.Words.{Files, Request, inputs, IsAlone, Asks, AsksCheck, Uses, AskOther}
+use Rattle.refactor_app.specs.Words.{Files, Request, inputs, IsAlone, Asks, AsksSteps, Uses, AskOther}
 use Rattle.refactor_app.specs.Verdicts.{Refuses, Changes, IsNotSmall}
 use Rattle.refactor_app.specs.Declarations.{AreDeclared, IsBroken, broken_line}
-use Rattle.refactor_app.specs.Refusals.{most_files, AsksFew, AsksGeneral, HasRead, HasParsed, IsAt, IsLarge, Tells, Refusal}
+use Rattle.refactor_app.specs.Refusals.{most_files, most_steps, AsksFew, AsksGeneral, HasRead, HasParsed, IsAt, IsLarge, Tells, Refusal}
 use Rattle.refactor_app.specs.Refusals as refusal
-use Rattle.refactor_app.specs.Outcomes.{Outcome, Misused, Absent, Refused, Changed, Judged, ComesTo, IsTreeless, AreTreeless, IsTypeRefusal, IsLargeRefusal, IsOfTypes}
+use Rattle.refactor_app.specs.Outcomes.{Outcome, Misused, Absent, Refused, Changed, Judged, Ended, ComesTo, IsTreeless, AreTreeless, IsTypeRefusal, IsLargeRefusal, IsOfTypes}
 use Rattle.refactor_app.proofs.Asking.{one_request, one_files}
-use Rattle.refactor_app.proofs.OneSense.{lowest_or_asks, lowest_or_other, other_or_asks, change_or_check, one_lowest}
+use Rattle.refactor_app.proofs.OneSense.{lowest_or_asks, lowest_or_other, other_or_asks, change_or_check, change_or_run, one_lowest}
 use Rattle.refactor_app.proofs.OneReading.{one_held, held_or_stops, one_stop}
 use Rattle.refactor_app.proofs.OneParse.{IsNoTree, AreAlike, trees_or_breaks, one_break, one_trees, trees_table}
 use Rattle.refactor_app.proofs.OneDeclared.{one_rule, broken_or_declared}
@@ -43,7 +43,7 @@ data Alone (q : Request) (text : List ℕ) : Outcome → Type 0 where
 data Done (words : List (List ℕ)) (look : Look) (texts : List (List ℕ)) : Outcome → Type 0 where
   large : (q : Request) {o : Outcome} → Asks words q → IsLarge q texts → IsOfTypes words (Some look) o → Done words look texts o
   single : (q : Request) (text : List ℕ) {o : Outcome} → Asks words q → IsAlone q → texts ≡ text ∷ [] → Alone q text o → Done words look texts o
-  types : (fs : Files) {o : Outcome} → AsksCheck words fs → IsOfTypes words (Some look) o → Done words look texts o
+  types : {o : Outcome} → ((q : Request) → Asks words q → ⊥) → IsOfTypes words (Some look) o → Done words look texts o
 
 -- of files with trees
 abbrev Sound : List (List ℕ) → Look → Files → List (List ℕ) → List (List ℕ) → List SourceUnit → Outcome → Type 0
@@ -63,9 +63,16 @@ Read words look fs o =
     ((k : ℕ) × (s : Stop) × StopsAt (Some look) 0 (inputs fs) k s × TellsStop fs k s o)
     ⊎ ((texts : List (List ℕ)) × AreHeld (Some look) 0 (inputs fs) texts × Parsed words look fs texts o)
 
+-- a run of more steps than there may be
+abbrev IsLong : List (List ℕ) → Files → Type 0
+IsLong words fs = (n : ℕ) × AsksSteps words fs n × (length (inputs fs) ≤ most_files) × (most_steps < n)
+
 -- of files
 abbrev Way : List (List ℕ) → Look → Files → Outcome → Type 0
-Way words look fs o = ((most_files < length (inputs fs)) × (o ≡ Refused (refused (codes "L1")))) ⊎ (AsksFew words fs × Read words look fs o)
+Way words look fs o =
+    ((most_files < length (inputs fs)) × (o ≡ Refused (refused (codes "L1"))))
+    ⊎ (IsLong words fs × (o ≡ Refused (refused (codes "L9"))))
+    ⊎ (AsksFew words fs × Read words look fs o)
 
 -- of words
 data Sense (words : List (List ℕ)) (look : Look) (o : Outcome) : Type 0 where
@@ -76,36 +83,49 @@ data Sense (words : List (List ℕ)) (look : Look) (o : Outcome) : Type 0 where
 -- of files that are parsed
 on_parsed : (words : List (List ℕ)) (look : Look) (fs : Files) (texts names : List (List ℕ)) (units : List SourceUnit) (o : Outcome) → HasParsed words (Some look) fs texts names units
     → Sound words look fs texts names units o → Sense words look o
-on_parsed words look fs texts names units o h sound = asks fs h.read.asks.uses (inr (h.read.asks, inr (texts, h.read.held, inr (units, names, h.trees, sound))))
+on_parsed words look fs texts names units o h sound = asks fs h.read.asks.uses (inr (inr (h.read.asks, inr (texts, h.read.held, inr (units, names, h.trees, sound)))))
 
 by_general : (words : List (List ℕ)) (look : Look) (fs : Files) (texts : List (List ℕ)) (o : Outcome) → AsksGeneral words fs texts → IsOfTypes words (Some look) o → Done words look texts o
-by_general words look fs texts o (inl check) told = types fs check told
-by_general words look fs texts o (inr (q, is, change, large_is)) told = large q change large_is told
+by_general words look fs texts o (inl check) told = types (λ q change. change_or_check words q fs change check) told
+by_general words look fs texts o (inr (inl (n, run))) told = types (λ q change. change_or_run words q n fs change run) told
+by_general words look fs texts o (inr (inr (q, is, change, large_is))) told = large q change large_is told
+
+-- of files that are run
+by_run : (words : List (List ℕ)) (look : Look) (fs : Files) (texts : List (List ℕ)) (n : ℕ) (o : Outcome) → AsksSteps words fs n → IsOfTypes words (Some look) o → Done words look texts o
+by_run words look fs texts n o run told = by_general words look fs texts o (inr (inl (n, run))) told
 
 by_refusal : (words : List (List ℕ)) (look : Look) (line : List ℕ) → Refusal words (Some look) line → Sense words look (Refused line)
 by_refusal words look line (refusal.Refusal.n1 h) = other h refl
 by_refusal words look line (refusal.Refusal.l1 fs h many) = asks fs h (inl (many, refl))
-by_refusal words look line (refusal.Refusal.l2 fs k few stops) = asks fs few.uses (inr (few, inl (k, TooLarge, stops, refl)))
-by_refusal words look line (refusal.Refusal.l3 fs k few stops) = asks fs few.uses (inr (few, inl (k, TooMuch, stops, refl)))
-by_refusal words look line (refusal.Refusal.broken fs texts k f read breaks tells) = asks fs read.asks.uses (inr (read.asks, inr (texts, read.held, inl (k, f, line, breaks, tells, refl))))
+by_refusal words look line (refusal.Refusal.l9 fs n run few long) = asks fs (inr (inr (n, run))) (inr (inl ((n, run, few, long), refl)))
+by_refusal words look line (refusal.Refusal.l2 fs k few stops) = asks fs few.uses (inr (inr (few, inl (k, TooLarge, stops, refl))))
+by_refusal words look line (refusal.Refusal.l3 fs k few stops) = asks fs few.uses (inr (inr (few, inl (k, TooMuch, stops, refl))))
+by_refusal words look line (refusal.Refusal.broken fs texts k f read breaks tells) = asks fs read.asks.uses (inr (inr (read.asks, inr (texts, read.held, inl (k, f, line, breaks, tells, refl)))))
 by_refusal words look line (refusal.Refusal.declared fs texts names units b parsed broken) = on_parsed words look fs texts names units _ parsed (inl (b, broken, refl))
 by_refusal words look line (refusal.Refusal.checked fs texts names units rule general h broken) =
     let told : IsTypeRefusal words (Some look) (broken_line fs texts units rule) = record { fs = fs; texts = texts; names = names; units = units; rule = rule; asks = general; declared = h; broken = broken; is = refl } in
     on_parsed words look fs texts names units _ h.parsed (inr (h.declared, by_general words look fs texts (Refused (broken_line fs texts units rule)) general (inl told)))
 by_refusal words look line (refusal.Refusal.n2 q texts names units change large_is h) =
     let told : IsLargeRefusal words (Some look) (refused (codes "N2")) = record { q = q; texts = texts; names = names; units = units; asks = change; large = large_is; checked = h; is = refl } in
-    on_parsed words look q.files texts names units _ h.declared.parsed (inr (h.declared.declared, large q change large_is (inr told)))
+    on_parsed words look q.files texts names units _ h.declared.parsed (inr (h.declared.declared, large q change large_is (inr (inl told))))
+by_refusal words look line (refusal.Refusal.s24 h) =
+    let run : AsksSteps words h.fs h.steps = record { class = h.class; args = h.args; asks = h.asks } in
+    on_parsed words look h.fs h.texts h.names h.units _ h.checked.declared.parsed
+    (inr (h.checked.declared.declared, by_run words look h.fs h.texts h.steps (Refused (refused (codes "S24"))) run (inr (inr (h, refl)))))
 by_refusal words look line (refusal.Refusal.refuses q text names u change h is r) =
     on_parsed words look q.files (text ∷ []) names (u ∷ []) _ h.parsed (inr (h.declared, single q text change is refl (refuses r)))
 
 sense : (words : List (List ℕ)) (look : Look) (o : Outcome) → ComesTo words (Some look) o → Sense words look o
 sense words look (Misused rule) h = misuse rule h refl
-sense words look (Absent name) h = asks h.fs h.asks.uses (inr (h.asks, inl (h.file, Missing, h.absent, (name, h.named, refl))))
+sense words look (Absent name) h = asks h.fs h.asks.uses (inr (inr (h.asks, inl (h.file, Missing, h.absent, (name, h.named, refl)))))
 sense words look (Refused line) h = by_refusal words look line h
 sense words look (Changed q made e) h =
     on_parsed words look q.files (h.text ∷ []) h.names (h.unit ∷ []) (Changed q made e) h.declared.parsed
     (inr (h.declared.declared, single q h.text h.asks h.alone refl (changes h.changes)))
-sense words look (Judged report) h = on_parsed words look h.fs h.texts h.names h.units (Judged report) h.declared.parsed (inr (h.declared.declared, types h.fs h.asks h))
+sense words look (Judged report) h = on_parsed words look h.fs h.texts h.names h.units (Judged report) h.declared.parsed (inr (h.declared.declared, by_general words look h.fs h.texts (Judged report) (inl h.asks) h))
+sense words look (Ended report how) h =
+    let run : AsksSteps words h.fs h.steps = record { class = h.class; args = h.args; asks = h.asks } in
+    on_parsed words look h.fs h.texts h.names h.units (Ended report how) h.declared.parsed (inr (h.declared.declared, by_run words look h.fs h.texts h.steps (Ended report how) run h))
 
 -- ---- each comes to one
 
@@ -155,13 +175,13 @@ module _ (words : List (List ℕ)) (look : Look) (fs : Files) (texts names : Lis
   one_done : (a b : Outcome) → Done words look texts a → Done words look texts b → AreAsOne words look a b
   one_done a b (large q change is told) (large r again so says) = inr (told, says)
   one_done a b (large q change is told) (single r y again alone are h) = absurd (large_or_single q r y b change again is alone are h)
-  one_done a b (large q change is told) (types gs check says) = absurd (change_or_check words q gs change check)
+  one_done a b (large q change is told) (types none says) = absurd (none q change)
   one_done a b (single q x change alone are h) (large r again so says) = absurd (large_or_single r q x a again change so alone are h)
   one_done a b (single q x {o = v} change is are h) (single r y {o = w} again so were g) = inl (both_alone q r x y v w change again are were h g)
-  one_done a b (single q x change is are h) (types gs check told) = absurd (change_or_check words q gs change check)
-  one_done a b (types gs check told) (large r again so says) = absurd (change_or_check words r gs again check)
-  one_done a b (types gs check told) (single r y again is are h) = absurd (change_or_check words r gs again check)
-  one_done a b (types gs check told) (types hs checks says) = inr (told, says)
+  one_done a b (single q x change is are h) (types none told) = absurd (none q change)
+  one_done a b (types none told) (large r again so says) = absurd (none r again)
+  one_done a b (types none told) (single r y again is are h) = absurd (none r again)
+  one_done a b (types none told) (types neither says) = inr (told, says)
 
   one_sound : (a b : Outcome) → Sound words look fs texts names units a → Sound words look fs texts names units b → AreAsOne words look a b
   one_sound a b (inl (x, broken, is)) (inl (y, broken', so)) =
@@ -232,9 +252,14 @@ module _ (words : List (List ℕ)) (look : Look) where
 
   one_way : (fs : Files) (a b : Outcome) → Way words look fs a → Way words look fs b → AreOne a b
   one_way fs a b (inl (many, is)) (inl (also, so)) = inl (is ∙ sym so)
-  one_way fs a b (inl (many, is)) (inr (few, h)) = absurd (let low = few.few in omega (arith, many, low))
-  one_way fs a b (inr (few, h)) (inl (many, is)) = absurd (let low = few.few in omega (arith, many, low))
-  one_way fs a b (inr (few, h)) (inr (also, g)) = one_read fs a b few h g
+  one_way fs a b (inl (many, is)) (inr (inl ((n, run, few, long), so))) = absurd (omega (arith, many, few))
+  one_way fs a b (inl (many, is)) (inr (inr (few, h))) = absurd (let low = few.few in omega (arith, many, low))
+  one_way fs a b (inr (inl ((n, run, few, long), is))) (inl (many, so)) = absurd (omega (arith, many, few))
+  one_way fs a b (inr (inl (long, is))) (inr (inl (also, so))) = inl (is ∙ sym so)
+  one_way fs a b (inr (inl ((n, run, many, long), is))) (inr (inr (few, h))) = absurd (let low = few.short n run in omega (arith, long, low))
+  one_way fs a b (inr (inr (few, h))) (inl (many, is)) = absurd (let low = few.few in omega (arith, many, low))
+  one_way fs a b (inr (inr (few, h))) (inr (inl ((n, run, many, long), is))) = absurd (let low = few.short n run in omega (arith, long, low))
+  one_way fs a b (inr (inr (few, h))) (inr (inr (also, g))) = one_read fs a b few h g
 
   one_sense : (a b : Outcome) → Sense words look a → Sense words look b → AreOne a b
   one_sense a b (misuse m low is) (misuse n low' so) = inl (is ∙ ap Misused (one_lowest words m n low low') ∙ sym so)

@@ -6,7 +6,7 @@ use Rattle.command_words.specs.declared.table.Command.{Command}
 use Rattle.command_words.specs.declared.table.Command.TheVariants as c
 use Rattle.command_words.specs.Table.{word_of, parts_of}
 use Rattle.command_words.specs.Rules.{Meets, IsLowest}
-use Rattle.refactor_app.specs.Words.{Files, Request, Asks, AsksCheck, Uses, AskOther}
+use Rattle.refactor_app.specs.Words.{Files, Request, Asks, AsksCheck, AsksSteps, Uses, AskOther}
 
 -- the command whose word begins with this byte
 abbrev command_at : ℕ → Command
@@ -57,7 +57,8 @@ record Meet (words : List (List ℕ)) : Type 0 where
 
 asked : (words : List (List ℕ)) (fs : Files) → Uses words fs → Meet words
 asked words fs (inl (q, h, is)) = record { command = c.Generalize; rest = h.rest; are = h.are; meets = h.meets }
-asked words fs (inr h) = record { command = c.Check; rest = h.rest; are = h.are; meets = h.meets }
+asked words fs (inr (inl h)) = record { command = c.Check; rest = h.rest; are = h.are; meets = h.meets }
+asked words fs (inr (inr (n, h))) = record { command = c.Run; rest = h.asks.rest; are = h.asks.are; meets = h.asks.meets }
 
 asked_other : (words : List (List ℕ)) → AskOther words → Meet words
 asked_other words h = record { command = h.command; rest = h.rest; are = h.are; meets = h.meets }
@@ -74,10 +75,17 @@ lowest_or_other words n low h = broken_or_met words n low (asked_other words h)
 
 pub other_or_asks : (words : List (List ℕ)) (fs : Files) → AskOther words → Uses words fs → ⊥
 other_or_asks words fs other (inl (q, h, is)) = other.no_change (one_split other.command c.Generalize other.rest h.rest (sym other.are ∙ h.are)).0
-other_or_asks words fs other (inr h) = other.no_check (one_split other.command c.Check other.rest h.rest (sym other.are ∙ h.are)).0
+other_or_asks words fs other (inr (inl h)) = other.no_check (one_split other.command c.Check other.rest h.rest (sym other.are ∙ h.are)).0
+other_or_asks words fs other (inr (inr (n, h))) = other.no_run (one_split other.command c.Run other.rest h.asks.rest (sym other.are ∙ h.asks.are)).0
 
 pub change_or_check : (words : List (List ℕ)) (q : Request) (fs : Files) → Asks words q → AsksCheck words fs → ⊥
 change_or_check words q fs g h = let same = (one_split c.Generalize c.Check g.rest h.rest (sym g.are ∙ h.are)).0 in absurd (cc)
+
+pub change_or_run : (words : List (List ℕ)) (q : Request) (n : ℕ) (fs : Files) → Asks words q → AsksSteps words fs n → ⊥
+change_or_run words q n fs g h = let same = (one_split c.Generalize c.Run g.rest h.asks.rest (sym g.are ∙ h.asks.are)).0 in absurd (cc)
+
+pub check_or_run : (words : List (List ℕ)) (fs : Files) (n : ℕ) (gs : Files) → AsksCheck words fs → AsksSteps words gs n → ⊥
+check_or_run words fs n gs g h = let same = (one_split c.Check c.Run g.rest h.asks.rest (sym g.are ∙ h.asks.are)).0 in absurd (cc)
 
 pub one_lowest : (words : List (List ℕ)) (m n : ℕ) → IsLowest words m → IsLowest words n → m ≡ n
 one_lowest words m n (inl (is, none)) (inl (so, none')) = is ∙ sym so

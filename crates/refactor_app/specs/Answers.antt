@@ -4,6 +4,8 @@ use Rattle.java_tree.specs.Plain.{SourceUnit}
 use Rattle.tool_files.specs.Told.{Look, Rose, SameBut, WhereTold, PutsAt, Appends, AppendsSome}
 use Rattle.command_words.specs.Rules.{IsLowest}
 use Rattle.edit_writer.specs.declared.edits.Edit.{Edit}
+use Rattle.core_meaning.specs.declared.values.End.{End}
+use Rattle.core_meaning.specs.declared.values.End.TheVariants as end
 use Rattle.source_files.specs.Held.{StopsAt, Missing, Failed}
 use Rattle.refactor_app.specs.declared.status.Status.{Status}
 use Rattle.refactor_app.specs.declared.status.Status.TheVariants as s
@@ -13,6 +15,7 @@ use Rattle.refactor_app.specs.Verdicts.{Changes}
 use Rattle.refactor_app.specs.Declarations.{AreDeclared}
 use Rattle.refactor_app.specs.Refusals.{AsksFew, HasDeclared, Refusal}
 use Rattle.refactor_app.specs.Checking.{Passes}
+use Rattle.refactor_app.specs.Running.{Runs}
 
 -- the change of a file, its only one, that the words ask for
 pub record IsChange (words : List (List ℕ)) (old : Option Look) (q : Request) (made : List ℕ) (edit : Edit) : Type 0 where
@@ -58,8 +61,28 @@ module _ (words : List (List ℕ)) (old new : Option Look) (before after : Optio
     pub report : Puts line
     pub nothing : NothingWritten
 
+  -- the run of the files ended so
+  pub record IsRunEnded (how : End) : Type 0 where
+    pub line : List ℕ
+    pub runs : Runs words old line how
+    pub report : Puts line
+    pub nothing : NothingWritten
+
+  -- Done: the run ended normally.
+  abbrev pub IsRunDone : Type 0
+  IsRunDone = IsRunEnded end.Normal
+
   abbrev pub IsDone : Type 0
-  IsDone = IsChangeDone ⊎ IsCheckDone
+  IsDone = IsChangeDone ⊎ IsCheckDone ⊎ IsRunDone
+
+  -- the run ended with a thrown object of this class
+  pub record IsThrew : Type 0 where
+    pub class : ℕ
+    pub ended : IsRunEnded (end.Threw class)
+
+  -- the run ended where no step was left
+  abbrev pub IsBound : Type 0
+  IsBound = IsRunEnded end.AtBound
 
   -- the first rule that stands against the words and the files
   pub record IsRefused : Type 0 where
@@ -101,7 +124,7 @@ module _ (words : List (List ℕ)) (old new : Option Look) (before after : Optio
 
   -- what would have become of the call, had the put of its report not failed
   abbrev pub IsOne : Type 0
-  IsOne = IsDone ⊎ IsRefused ⊎ IsUsage ⊎ IsMissing ⊎ IsReadFault ⊎ IsWriteFault
+  IsOne = IsDone ⊎ IsRefused ⊎ IsUsage ⊎ IsMissing ⊎ IsReadFault ⊎ IsWriteFault ⊎ IsThrew ⊎ IsBound
 
 -- OutFault: the files are as for the answer that would have come, and of its report a front was put.
 pub record IsOutFault (words : List (List ℕ)) (old new : Option Look) (before after : Option (List ℕ)) : Type 0 where

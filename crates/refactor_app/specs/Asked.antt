@@ -1,12 +1,13 @@
 -- What words ask for, as the code has it.
-use Rattle.std.specs.Prelude.{ℕ, List, map}
+use Rattle.std.specs.Prelude.{◌≡◌, ℕ, List, ◌∷◌, drop, map}
 use Rattle.std.specs.String.{string_bytes}
-use Rattle.command_words.specs.Names.{IsIdentifier}
+use Rattle.command_words.specs.Names.{IsIdentifier, IsNumber}
 use Rattle.refactor_app.specs.declared.asked.Asked.{Asked}
+use Rattle.refactor_app.specs.declared.asked.AskedRun.{AskedRun}
 use Rattle.refactor_app.specs.declared.asked.Inputs.{Inputs}
 use Rattle.refactor_app.specs.declared.asked.Task.{Task}
 use Rattle.refactor_app.specs.declared.asked.Task.TheVariants as task
-use Rattle.refactor_app.specs.Words.{Files, Request, Asks, AsksCheck}
+use Rattle.refactor_app.specs.Words.{Files, Request, Asks, AsksCheck, AsksRun}
 
 abbrev pub files_of : Inputs → Files
 files_of i = record { users = map string_bytes i.users.now; libs = map string_bytes i.libs.now }
@@ -24,12 +25,37 @@ request_of a = record {
 abbrev pub task_files : Task → Files
 task_files (task.Change a) = files_of a.inputs
 task_files (task.Check i) = files_of i
+task_files (task.Run r) = files_of r.inputs
+
+-- own words of a run: a number, a class, and nothing or `=` and the arguments
+pub record HasRunWords (own : List (List ℕ)) : Type 0 where
+  pub count : List ℕ
+  pub class : List ℕ
+  pub more : List (List ℕ)
+  pub are : own ≡ count ∷ class ∷ more
+  pub number : (n : ℕ) × IsNumber count n
+
+pub record AreRunWords (own : List (List ℕ)) (r : AskedRun) : Type 0 where
+  pub count : List ℕ
+  pub more : List (List ℕ)
+  pub are : own ≡ count ∷ r.class.now ∷ more
+  pub at_steps : IsNumber count r.steps
+  pub args : map string_bytes r.args.now ≡ drop 1 more
+
+abbrev pub AsksRunOf : List (List ℕ) → AskedRun → Type 0
+AsksRunOf words r = AsksRun words r.steps r.class.now (map string_bytes r.args.now) (files_of r.inputs)
+
+-- the steps that a run may take
+abbrev pub task_steps : Task → ℕ
+task_steps (task.Run r) = r.steps
+task_steps _ = 0
 
 abbrev pub AsksTask : List (List ℕ) → Task → Type 0
 AsksTask words (task.Change a) = Asks words (request_of a)
 AsksTask words (task.Check i) = AsksCheck words (files_of i)
+AsksTask words (task.Run r) = AsksRunOf words r
 
 -- a type to which something is changed is an identifier
 abbrev pub HasType : Task → Type 0
 HasType (task.Change a) = IsIdentifier a.ty.now
-HasType (task.Check i) = Unit {0}
+HasType _ = Unit {0}

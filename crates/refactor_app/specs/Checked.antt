@@ -4,6 +4,7 @@ use Rattle.std.specs.String.{string_bytes}
 use Rattle.java_tree.specs.Plain.{SourceUnit}
 use Rattle.java_tree.specs.declared.fault.Broken.{Broken}
 use Rattle.class_world.specs.declared.world.World.{World}
+use Rattle.java_core.specs.View.{program_plain}
 use Rattle.decl_table.specs.Program.{Program}
 use Rattle.report_text.specs.Report.{refused}
 use Rattle.unchecked_ops.specs.declared.program.Operation.{Operation}
@@ -19,7 +20,8 @@ use Rattle.refactor_app.specs.Checking.{check_report}
 -- of files that make this program with this world
 abbrev pub Answers : Files → (texts : List (List ℕ)) → List SourceUnit → Program → World → CheckAnswer → Type 0
 Answers fs texts units p w (answer.Refused line) = (b : Broken) × IsCheckRefusal p w b × (string_bytes line ≡ broken_line fs texts units b)
-Answers fs texts units p w (answer.Passed report) = (operations : List Operation) × IsWellTyped p w operations × (string_bytes report ≡ check_report fs texts operations)
+Answers fs texts units p w (answer.Passed report core) =
+    (operations : List Operation) × IsWellTyped p w (program_plain core) operations × (string_bytes report ≡ check_report fs texts operations)
 
 -- what a check answers of files whose declarations say this
 abbrev pub AreAnswered : Files → (texts names : List (List ℕ)) → List SourceUnit → Declared → CheckAnswer → Type 0
@@ -28,4 +30,4 @@ AreAnswered fs texts names units d x = (p : Program) → IsOfFiles (length fs.us
 -- what is put of a change that no small program answers: N2 stands behind the rules of a check
 abbrev pub large_line : CheckAnswer → List ℕ
 large_line (answer.Refused line) = string_bytes line
-large_line (answer.Passed report) = refused (codes "N2")
+large_line (answer.Passed report core) = refused (codes "N2")

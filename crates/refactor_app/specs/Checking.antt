@@ -1,6 +1,7 @@
 -- What a check answers where no rule is broken.
 use Rattle.std.specs.Prelude.{◌≡◌, ℕ, List, ◌++◌, length, flat_map, Option, Some}
 use Rattle.java_tree.specs.Plain.{SourceUnit}
+use Rattle.java_core.specs.Plain as e
 use Rattle.tool_files.specs.Told.{Look}
 use Rattle.report_text.specs.Report.{unchecked_at, checked_files}
 use Rattle.node_places.specs.declared.place.NodePlace.{NodePlace}
@@ -27,8 +28,9 @@ pub record Passes (words : List (List ℕ)) (look : Option Look) (report : List 
   pub texts : List (List ℕ)
   pub names : List (List ℕ)
   pub units : List SourceUnit
+  pub core : e.Program
   pub operations : List Operation
   pub asks : AsksCheck words fs
   pub declared : HasDeclared words look fs texts names units
-  pub typed : IsWellTyped declared.declared.program declared.declared.world operations
+  pub typed : IsWellTyped declared.declared.program declared.declared.world core operations
   pub is : report ≡ check_report fs texts operations

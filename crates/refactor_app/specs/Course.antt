@@ -5,6 +5,7 @@ use Rattle.refactor_app.specs.declared.decide.Changed.{Changed}
 use Rattle.tool_files.specs.Told.{Look, Rose, SameBut, WhereTold, PutsAt}
 use Rattle.command_words.specs.Rules.{IsLowest}
 use Rattle.edit_writer.specs.declared.edits.Edit.{Edit}
+use Rattle.core_meaning.specs.declared.values.End.{End}
 use Rattle.source_files.specs.Held.{StopsAt, Missing, Failed}
 use Rattle.report_text.specs.Report.{usage, edit_report, missing, read_fault, write_fault}
 use Rattle.refactor_app.specs.declared.status.Status.{Status}
@@ -16,6 +17,7 @@ use Rattle.refactor_app.specs.Checked.{large_line}
 use Rattle.refactor_app.specs.Verdicts.{Refuses, Changes, IsNotSmall}
 use Rattle.refactor_app.specs.Refusals.{AsksFew, Refusal}
 use Rattle.refactor_app.specs.Checking.{Passes}
+use Rattle.refactor_app.specs.Running.{Runs, run_status}
 use Rattle.refactor_app.specs.Answers.{IsChange, Ends}
 
 -- The files before and after, what was put before and after, and each count before and after.
@@ -33,7 +35,7 @@ EndsAt a b = Ends a.put b.put a.faults b.faults
 -- the answer of a check is put
 abbrev pub EndsWith : Option (List ℕ) → Option (List ℕ) → ℕ → ℕ → CheckAnswer → Status → Type 0
 EndsWith before after faults now (answer.Refused line) status = Ends before after faults now (string_bytes line) s.Refused status
-EndsWith before after faults now (answer.Passed report) status = Ends before after faults now (string_bytes report) s.Done status
+EndsWith before after faults now (answer.Passed report core) status = Ends before after faults now (string_bytes report) s.Done status
 
 -- a change that is asked for of what the files held first
 abbrev pub IsAsked : List (List ℕ) → Moment → Request → List ℕ → Edit → Type 0
@@ -47,6 +49,7 @@ pub data Course (words : List (List ℕ)) (a b : Moment) (status : Status) : Typ
       → b.holds ≡ a.holds → EndsAt a b (read_fault name) s.ReadFault status → Course words a b status
   refuses : {line : List ℕ} → Refusal words a.holds line → b.holds ≡ a.holds → EndsAt a b line s.Refused status → Course words a b status
   checks : {line : List ℕ} → Passes words a.holds line → b.holds ≡ a.holds → EndsAt a b line s.Done status → Course words a b status
+  runs : {line : List ℕ} (how : End) → Runs words a.holds line how → b.holds ≡ a.holds → EndsAt a b line (run_status how) status → Course words a b status
   writes : {q : Request} {made : List ℕ} {e : Edit} → IsAsked words a q made e → WhereTold a.holds b.holds (PutsAt (out_name q) made)
       → EndsAt a b (edit_report q.file e) s.Done status → Course words a b status
   fails : {q : Request} {made : List ℕ} {e : Edit} → IsAsked words a q made e → WhereTold a.holds b.holds (SameBut (out_name q)) → Rose a.write_faults b.write_faults

@@ -9,7 +9,9 @@ pub mod Judged
 pub mod Refusals
 pub mod Checking
 pub mod Checked
+pub mod Running
 pub mod Stops
 pub mod Answers
+pub mod Ran
 pub mod Course
 pub mod Outcomes

@@ -5,14 +5,16 @@ use Rattle.java_tree.specs.Plain.{SourceUnit}
 use Rattle.tool_files.specs.Told.{Look}
 use Rattle.command_words.specs.Rules.{IsLowest}
 use Rattle.edit_writer.specs.declared.edits.Edit.{Edit}
+use Rattle.core_meaning.specs.declared.values.End.{End}
 use Rattle.source_files.specs.Held.{StopsAt, Missing}
 use Rattle.source_files.specs.Trees.{BreaksAt, NoTree}
 use Rattle.java_tree.specs.declared.fault.Broken.{Broken}
 use Rattle.report_text.specs.Report.{refused}
 use Rattle.refactor_app.specs.Words.{Files, Request, inputs, Asks}
 use Rattle.refactor_app.specs.Declarations.{broken_line}
-use Rattle.refactor_app.specs.Refusals.{AsksFew, AsksGeneral, HasChecked, HasRead, HasDeclared, IsAt, IsCheckRefusal, IsLarge, Refusal}
+use Rattle.refactor_app.specs.Refusals.{AsksFew, AsksGeneral, HasChecked, HasNoMain, HasRead, HasDeclared, IsAt, IsCheckRefusal, IsLarge, Refusal}
 use Rattle.refactor_app.specs.Checking.{Passes}
+use Rattle.refactor_app.specs.Running.{Runs}
 use Rattle.refactor_app.specs.Answers.{IsChange}
 
 pub data Outcome : Type 0 where
@@ -21,6 +23,7 @@ pub data Outcome : Type 0 where
   Refused : (line : List ℕ) → Outcome
   Changed : (q : Request) (made : List ℕ) (edit : Edit) → Outcome
   Judged : (report : List ℕ) → Outcome
+  Ended : (report : List ℕ) (how : End) → Outcome
 
 -- the first file that is absent has this name
 pub record IsFirstAbsent (words : List (List ℕ)) (old : Option Look) (name : List ℕ) : Type 0 where
@@ -36,6 +39,7 @@ ComesTo words old (Absent name) = IsFirstAbsent words old name
 ComesTo words old (Refused line) = Refusal words old line
 ComesTo words old (Changed q made edit) = IsChange words old q made edit
 ComesTo words old (Judged report) = Passes words old report
+ComesTo words old (Ended report how) = Runs words old report how
 
 -- the line says that the file with this number has no tree, at one of its places
 pub record IsTreeless (words : List (List ℕ)) (old : Option Look) (fs : Files) (texts : List (List ℕ)) (file : ℕ) (line : List ℕ) : Type 0 where
@@ -73,10 +77,15 @@ pub record IsLargeRefusal (words : List (List ℕ)) (old : Option Look) (line : 
   pub checked : HasChecked words old q.files texts names units
   pub is : line ≡ refused (codes "N2")
 
--- what is said where a check was made: its answer, or N2 behind it
+-- the line is S24, of a run
+abbrev pub IsMainless : List (List ℕ) → Option Look → (line : List ℕ) → Type 0
+IsMainless words old line = HasNoMain words old × (line ≡ refused (codes "S24"))
+
+-- what is said where a check was made: its answer, or N2, S24 or the report of a run behind it
 abbrev pub IsOfTypes : List (List ℕ) → Option Look → Outcome → Type 0
-IsOfTypes words old (Refused line) = IsTypeRefusal words old line ⊎ IsLargeRefusal words old line
+IsOfTypes words old (Refused line) = IsTypeRefusal words old line ⊎ IsLargeRefusal words old line ⊎ IsMainless words old line
 IsOfTypes words old (Judged report) = Passes words old report
+IsOfTypes words old (Ended report how) = Runs words old report how
 IsOfTypes words old _ = ⊥
 
 -- No two calls on the same words and files, whose contents are told, have these answers, whatever is held and put behind them.

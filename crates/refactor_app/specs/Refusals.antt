@@ -11,20 +11,28 @@ use Rattle.source_files.specs.Held.{AreHeld, StopsAt, TooLarge, TooMuch}
 use Rattle.source_files.specs.Trees.{AreTrees, BreaksAt, Fault, Lexical, Tokens, LeftOut, NoTree}
 use Rattle.report_text.specs.Report.{refused, refused_at}
 use Rattle.class_world.specs.declared.world.World.{World}
+use Rattle.java_core.specs.Plain as e
 use Rattle.decl_table.specs.Program.{Program}
 use Rattle.unchecked_ops.specs.declared.program.Operation.{Operation}
 use Rattle.checker.specs.Checking.{IsIllFlowing, IsIllTyped, IsWellTyped}
-use Rattle.refactor_app.specs.Words.{Files, Request, inputs, IsAlone, Asks, AsksCheck, Uses, AskOther}
+use Rattle.program_runs.specs.declared.answer.RunAnswer.TheVariants.{NoMain}
+use Rattle.program_runs.specs.Told.{IsRun}
+use Rattle.built_in_types.specs.BuiltIns.{with_words}
+use Rattle.refactor_app.specs.Words.{Files, Request, inputs, IsAlone, Asks, AsksCheck, AsksRun, AsksSteps, Uses, AskOther}
 use Rattle.refactor_app.specs.Verdicts.{IsNotSmall, Refuses}
 use Rattle.refactor_app.specs.Declarations.{AreDeclared, IsBroken, broken_line}
 
 abbrev pub most_files : ℕ
 most_files = 256
 
--- the words ask for a command on these files, of which there are no more than there may be
+abbrev pub most_steps : ℕ
+most_steps = 100000000
+
+-- the words ask for a command on these files, of which there are no more than there may be, and for no more steps
 pub record AsksFew (words : List (List ℕ)) (fs : Files) : Type 0 where
   pub uses : Uses words fs
   pub few : length (inputs fs) ≤ most_files
+  pub short : (n : ℕ) → AsksSteps words fs n → n ≤ most_steps
 
 -- and these are what the files hold, where contents are told
 pub record HasRead (words : List (List ℕ)) (look : Option Look) (fs : Files) (texts : List (List ℕ)) : Type 0 where
@@ -71,21 +79,36 @@ pub data IsCheckRefusal (p : Program) (w : World) : Broken → Type 0 where
 abbrev pub IsLarge : Request → (texts : List (List ℕ)) → Type 0
 IsLarge q texts = (IsAlone q → ⊥) ⊎ ((text : List ℕ) × IsAlone q × (texts ≡ text ∷ []) × IsNotSmall q text)
 
--- the words ask for a check, or for such a change
+-- the words ask for a check, for a run, or for such a change
 abbrev pub AsksGeneral : (words : List (List ℕ)) → Files → (texts : List (List ℕ)) → Type 0
-AsksGeneral words fs texts = AsksCheck words fs ⊎ ((q : Request) × (q.files ≡ fs) × Asks words q × IsLarge q texts)
+AsksGeneral words fs texts = AsksCheck words fs ⊎ ((n : ℕ) × AsksSteps words fs n) ⊎ ((q : Request) × (q.files ≡ fs) × Asks words q × IsLarge q texts)
 
 -- files whose declarations break no rule, and that break none on types or flow
 pub record HasChecked (words : List (List ℕ)) (look : Option Look) (fs : Files) (texts : List (List ℕ)) (names : List (List ℕ)) (units : List SourceUnit) : Type 0 where
   pub declared : HasDeclared words look fs texts names units
+  pub core : e.Program
   pub operations : List Operation
-  pub typed : IsWellTyped declared.declared.program declared.declared.world operations
+  pub typed : IsWellTyped declared.declared.program declared.declared.world core operations
 
--- The rules in their order: N1, L1, the sizes of the files, their texts, the declarations of the program, and then what stands against a change of a small program,
--- or the rules on types and on flow, and N2.
+-- the words ask for a run of such files, and the class has no main method, or is none of the user's
+pub record HasNoMain (words : List (List ℕ)) (look : Option Look) : Type 0 where
+  pub fs : Files
+  pub texts : List (List ℕ)
+  pub names : List (List ℕ)
+  pub units : List SourceUnit
+  pub steps : ℕ
+  pub class : List ℕ
+  pub args : List (List ℕ)
+  pub asks : AsksRun words steps class args fs
+  pub checked : HasChecked words look fs texts names units
+  pub none : IsRun checked.declared.declared.world (with_words names) checked.core (length fs.users) class args steps NoMain
+
+-- The rules in their order: N1, L1, L9, the sizes of the files, their texts, the declarations of the program, and then what stands against a change of a small program,
+-- or the rules on types and on flow, and N2 or S24.
 pub data Refusal (words : List (List ℕ)) (look : Option Look) : List ℕ → Type 0 where
   n1 : AskOther words → Refusal words look (refused (codes "N1"))
   l1 : (fs : Files) → Uses words fs → most_files < length (inputs fs) → Refusal words look (refused (codes "L1"))
+  l9 : (fs : Files) (n : ℕ) → AsksSteps words fs n → length (inputs fs) ≤ most_files → most_steps < n → Refusal words look (refused (codes "L9"))
   l2 : (fs : Files) (k : ℕ) → AsksFew words fs → StopsAt look 0 (inputs fs) k TooLarge → Refusal words look (refused (codes "L2"))
   l3 : (fs : Files) (k : ℕ) → AsksFew words fs → StopsAt look 0 (inputs fs) k TooMuch → Refusal words look (refused (codes "L3"))
   broken : (fs : Files) (texts : List (List ℕ)) (k : ℕ) (fault : Fault) {line : List ℕ} → HasRead words look fs texts → BreaksAt built_in_names 0 0 texts k fault
@@ -96,5 +119,6 @@ pub data Refusal (words : List (List ℕ)) (look : Option Look) : List ℕ → T
       → IsCheckRefusal h.declared.program h.declared.world b → Refusal words look (broken_line fs texts units b)
   n2 : (q : Request) (texts names : List (List ℕ)) (units : List SourceUnit) → Asks words q → IsLarge q texts → HasChecked words look q.files texts names units
       → Refusal words look (refused (codes "N2"))
+  s24 : HasNoMain words look → Refusal words look (refused (codes "S24"))
   refuses : (q : Request) (text : List ℕ) (names : List (List ℕ)) (u : SourceUnit) {line : List ℕ} → Asks words q → HasDeclared words look q.files (text ∷ []) names (u ∷ [])
       → IsAlone q → Refuses q text line → Refusal words look line

@@ -1,5 +1,5 @@
 -- What the words of a call ask for.
-use Rattle.std.specs.Prelude.{◌≡◌, ◌≢◌, ◌⊎◌, ℕ, List, [], ◌∷◌, ◌++◌}
+use Rattle.std.specs.Prelude.{◌≡◌, ◌≢◌, ◌⊎◌, ℕ, List, [], ◌∷◌, ◌++◌, drop}
 use Rattle.command_words.specs.declared.table.Command.{Command}
 use Rattle.command_words.specs.declared.table.Command.TheVariants as c
 use Rattle.command_words.specs.Names.{IsNumber, within}
@@ -49,9 +49,28 @@ pub record AsksCheck (words : List (List ℕ)) (fs : Files) : Type 0 where
   pub libs : (parts_of rest).libs ≡ fs.libs
   pub meets : (n : ℕ) → Meets c.Check (parts_of rest) n
 
--- they ask for a change or a check of these files
+-- the words break no rule, and ask for a run: run STEPS CLASS -- files, or with `= ARGS` behind CLASS
+pub record AsksRun (words : List (List ℕ)) (steps : ℕ) (class : List ℕ) (args : List (List ℕ)) (fs : Files) : Type 0 where
+  pub rest : List (List ℕ)
+  pub are : words ≡ word_of c.Run ∷ rest
+  pub count : List ℕ
+  pub more : List (List ℕ)  -- empty, or `=` and the arguments
+  pub own : (parts_of rest).own ≡ count ∷ class ∷ more
+  pub at_steps : IsNumber count steps
+  pub are_args : args ≡ drop 1 more
+  pub users : (parts_of rest).users ≡ fs.users
+  pub libs : (parts_of rest).libs ≡ fs.libs
+  pub meets : (n : ℕ) → Meets c.Run (parts_of rest) n
+
+-- they ask for a run of so many steps at most
+pub record AsksSteps (words : List (List ℕ)) (fs : Files) (steps : ℕ) : Type 0 where
+  pub class : List ℕ
+  pub args : List (List ℕ)
+  pub asks : AsksRun words steps class args fs
+
+-- they ask for a change, a check or a run of these files
 abbrev pub Uses : List (List ℕ) → Files → Type 0
-Uses words fs = ((q : Request) × Asks words q × (q.files ≡ fs)) ⊎ AsksCheck words fs
+Uses words fs = ((q : Request) × Asks words q × (q.files ≡ fs)) ⊎ AsksCheck words fs ⊎ ((n : ℕ) × AsksSteps words fs n)
 
 -- the words break no rule, and ask for something else
 pub record AskOther (words : List (List ℕ)) : Type 0 where
@@ -60,6 +79,7 @@ pub record AskOther (words : List (List ℕ)) : Type 0 where
   pub are : words ≡ word_of command ∷ rest
   pub no_change : command ≢ c.Generalize
   pub no_check : command ≢ c.Check
+  pub no_run : command ≢ c.Run
   pub meets : (n : ℕ) → Meets command (parts_of rest) n
 
 -- the name of the new file

@@ -1,13 +1,13 @@
-//! What words ask for: a change or a check.
+//! What words ask for: a change, a check or a run.
 
-ghost use Rattle.std.specs.Prelude.{◌≡◌, ◌≢◌, ℕ, true, false, map, List, ◌++◌, OnOk, IfOk, IfSome, IfNone};
+ghost use Rattle.std.specs.Prelude.{◌≡◌, ◌≢◌, ℕ, true, false, map, drop, List, ◌++◌, OnOk, IfOk, IfSome, IfNone};
 ghost use Rattle.std.specs.String.{string_bytes};
 ghost use Rattle.command_words.specs.declared.table.Command.TheVariants as commands;
 ghost use Rattle.command_words.specs.Asked as asked_words;
 ghost use Rattle.refactor_app.specs.Words.{Asks, inputs};
-ghost use Rattle.refactor_app.specs.Asked.{AsksTask, files_of, request_of, task_files};
+ghost use Rattle.refactor_app.specs.Asked.{AreRunWords, AsksRunOf, AsksTask, HasRunWords, files_of, request_of, task_files, task_steps};
 
-use command_words::{Command, Request};
+use command_words::{Command, Request, number};
 use java_tree::{Items, NoMemory};
 use std::alloc::Global;
 
@@ -29,11 +29,21 @@ pub struct Asked<'a> {
     pub inputs: Inputs<'a>,
 }
 
+/// `run STEPS CLASS = ARGS` with its files.
+#[derive(Clone, Copy)]
+pub struct AskedRun<'a> {
+    pub steps: u64,
+    pub class: &'a str,
+    pub args: &'a [String],
+    pub inputs: Inputs<'a>,
+}
+
 /// What is to be done with the files.
 #[derive(Clone, Copy)]
 pub enum Task<'a> {
     Change(Asked<'a>),
     Check(Inputs<'a>),
+    Run(AskedRun<'a>),
 }
 
 impl<'a> Task<'a> {
@@ -43,6 +53,17 @@ impl<'a> Task<'a> {
         match self {
             Task::Change(q) => q.inputs,
             Task::Check(inputs) => *inputs,
+            Task::Run(q) => q.inputs,
+        }
+    }
+
+    /// The steps that a run may take.
+    pub fn steps(&self) -> u64
+        ensures { result ≡ task_steps self.now }
+    {
+        match self {
+            Task::Run(q) => q.steps,
+            _ => 0,
         }
     }
 }
@@ -73,6 +94,45 @@ fn change_asked<'a>(request: &Request<'a>) -> Option<Asked<'a>>
     })
 }
 
+// The words behind the first.
+fn behind_first(words: &[String]) -> &[String]
+    ensures { map string_bytes result.now ≡ drop 1 (map string_bytes words.now) }
+{
+    match words {
+        [_, rest @ ..] => rest,
+        [] => words,
+    }
+}
+
+// The run of a request's own words, where they are such. Behind CLASS stands nothing, or `=` and the arguments.
+fn run_of<'a>(request: &Request<'a>) -> Option<AskedRun<'a>>
+    ensures words { IfSome result (AreRunWords (map string_bytes request.now.own.now)) }
+    ensures inputs { IfSome result (λ r. r.inputs ≡ record { users = request.now.users; libs = request.now.libs }) }
+    ensures none { IfNone result (HasRunWords (map string_bytes request.now.own.now) → ⊥) }
+{
+    match request.own {
+        [steps, class, more @ ..] => Some(AskedRun {
+            steps: number(steps.as_str())?,
+            class: class.as_str(),
+            args: behind_first(more),
+            inputs: inputs_in(request),
+        }),
+        _ => None,
+    }
+}
+
+// The run that a request asks for, where it asks for one.
+fn run_asked<'a>(request: &Request<'a>) -> Option<AskedRun<'a>>
+    requires { (ws : List (List ℕ)) × asked_words.Asks ws request.now }
+    ensures some { IfSome result (λ r. (ws : List (List ℕ)) → asked_words.Asks ws request.now → AsksRunOf ws r) }
+    ensures none { IfNone result (request.now.command ≢ commands.Run) }
+{
+    match request.command {
+        Command::Run => run_of(request),
+        _ => None,
+    }
+}
+
 fn is_check(command: Command) -> bool
     ensures yes { result ≡ true → command ≡ commands.Check }
     ensures no { result ≡ false → command ≢ commands.Check }
@@ -80,15 +140,19 @@ fn is_check(command: Command) -> bool
     matches!(command, Command::Check)
 }
 
-/// What a request asks for, where it is a change or a check.
+/// What a request asks for, where it is a change, a check or a run.
 pub fn task_of<'a>(request: &Request<'a>) -> Option<Task<'a>>
     requires { (ws : List (List ℕ)) × asked_words.Asks ws request.now }
     ensures some { IfSome result (λ t. (ws : List (List ℕ)) → asked_words.Asks ws request.now → AsksTask ws t) }
     ensures no_change { IfNone result (request.now.command ≢ commands.Generalize) }
     ensures no_check { IfNone result (request.now.command ≢ commands.Check) }
+    ensures no_run { IfNone result (request.now.command ≢ commands.Run) }
 {
     if is_check(request.command) {
         return Some(Task::Check(inputs_in(request)));
+    }
+    if let Some(q) = run_asked(request) {
+        return Some(Task::Run(q));
     }
     match change_asked(request) {
         Some(q) => Some(Task::Change(q)),

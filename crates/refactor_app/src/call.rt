@@ -5,6 +5,8 @@ ghost use Rattle.std.specs.String.{string_bytes};
 ghost use Rattle.java_tree.specs.Names.{IsTable, built_in_names};
 ghost use Rattle.java_tree.specs.View.{unit_plain};
 ghost use Rattle.built_in_types.specs.BuiltIns.{with_words};
+ghost use Rattle.class_world.specs.Sound.{IsSound};
+ghost use Rattle.member_table.specs.Table.{HoldsMembers};
 ghost use Rattle.command_words.specs.Names.{IsIdentifier};
 ghost use Rattle.tool_files.specs.Told.{Rose};
 ghost use Rattle.source_files.specs.Held.{AreHeld};
@@ -13,25 +15,27 @@ ghost use Rattle.source_files.specs.Answers.{HasParsed};
 ghost use Rattle.refactor_app.specs.Words.{inputs, Asks};
 ghost use Rattle.refactor_app.specs.Asked.{AsksTask, HasType, request_of, task_files};
 ghost use Rattle.refactor_app.specs.Answers as answers;
-ghost use Rattle.refactor_app.specs.Answers.{IsDone, IsRefused, IsUsage, IsWriteFault, IsOutFault, Ends};
+ghost use Rattle.refactor_app.specs.Answers.{IsBound, IsDone, IsRefused, IsThrew, IsUsage, IsWriteFault, IsOutFault, Ends};
 ghost use Rattle.refactor_app.specs.Small.{HasUnit};
 ghost use Rattle.refactor_app.specs.Judged.{AreDeclaredAs};
 ghost use Rattle.refactor_app.specs.Checked.{AreAnswered, large_line};
+ghost use Rattle.refactor_app.specs.Ran.{EndsRun, RunsSo};
 ghost use Rattle.refactor_app.specs.Course.{EndsWith};
 ghost use Rattle.refactor_app.specs.Refusals.{AsksFew};
 ghost use Rattle.refactor_app.specs.Course.{Moment, Course, Finishes, Sequel};
 ghost use Rattle.refactor_app.specs.Stops.{IsNamed, Stops};
 
-use crate::asked::{Asked, Task, names_of, task_of};
+use crate::asked::{Asked, AskedRun, Task, names_of, task_of};
 use crate::check::{CheckAnswer, check};
 use crate::decide::{Changed, Verdict, decide};
 use crate::declarations::{Declared, judge_declarations};
 use crate::first_names::first_of;
 use crate::lines::{broken_line, stop_line};
-use crate::status::Status;
+use crate::status::{Status, run_status};
 use command_words::{Reading, read_words};
 use java_tree::tree::SourceUnit;
 use java_tree::{Fault, Items, Names, NoMemory};
+use program_runs::{RunAnswer, run_main};
 use report_text::{missing, read_fault, usage};
 use source_files::{Parsed, ReadStop, TreeStop, parse_files, read_files};
 use std::alloc::Global;
@@ -39,6 +43,9 @@ use tool_files::{Files, Sink};
 
 /// The most files of a program.
 const MOST_FILES: usize = 256;
+
+/// The most steps of a run.
+const MOST_STEPS: u64 = 100_000_000;
 
 // Puts a report, after which the call ends so.
 fn put<K: Sink>(out: &mut K, report: &[u8], status: Status) -> Status
@@ -77,7 +84,50 @@ fn put_checked<K: Sink>(out: &mut K, checked: &CheckAnswer) -> Status
 {
     match checked {
         CheckAnswer::Refused(line) => put(out, line.as_bytes(), Status::Refused),
-        CheckAnswer::Passed(report) => put(out, report.as_bytes(), Status::Done),
+        CheckAnswer::Passed { report, .. } => put(out, report.as_bytes(), Status::Done),
+    }
+}
+
+// Puts the answer of a run.
+fn put_run<K: Sink>(out: &mut K, answer: Result<RunAnswer, NoMemory>) -> Status
+    ensures { EndsRun (K.written out.old) (K.written out.new) (K.faults out.old) (K.faults out.new) answer result }
+{
+    match answer {
+        Ok(RunAnswer::NoMain) => put(out, b"refused S24 -\n", Status::Refused),
+        Ok(RunAnswer::Ran { report, end }) => put(out, report.as_slice(), run_status(end)),
+        Err(_) => Status::NoMemory,
+    }
+}
+
+// Runs the main method of files of which a check answered this, and puts the answer.
+fn on_run<K: Sink>(
+    alloc: Global,
+    q: &AskedRun<'_>,
+    table: &Names,
+    declared: &Declared,
+    checked: &CheckAnswer,
+    out: &mut K,
+) -> Status
+    requires sound { IsSound declared.now.world }
+    requires members { HoldsMembers declared.now.world declared.now.members }
+    ensures { RunsSo declared.now.world table.now q.now (K.written out.old) (K.written out.new) (K.faults out.old) (K.faults out.new) checked.now result }
+{
+    match checked {
+        CheckAnswer::Refused(line) => put(out, line.as_bytes(), Status::Refused),
+        CheckAnswer::Passed { core, .. } => {
+            let answer = run_main(
+                alloc,
+                &declared.world,
+                table,
+                core,
+                &declared.members,
+                q.inputs.users.len(),
+                q.class,
+                q.args,
+                q.steps,
+            );
+            put_run(out, answer)
+        }
     }
 }
 
@@ -87,7 +137,7 @@ fn put_large<K: Sink>(out: &mut K, checked: &CheckAnswer) -> Status
 {
     match checked {
         CheckAnswer::Refused(line) => put(out, line.as_bytes(), Status::Refused),
-        CheckAnswer::Passed(_) => put(out, b"refused N2 -\n", Status::Refused),
+        CheckAnswer::Passed { .. } => put(out, b"refused N2 -\n", Status::Refused),
     }
 }
 
@@ -202,6 +252,7 @@ fn on_declared<F: Files, K: Sink>(
             alloc, q, texts, table, count, units, declared, &checked, files, out,
         ),
         Task::Check(_) => put_checked(out, &checked),
+        Task::Run(q) => on_run(alloc, q, table, declared, &checked, out),
     }
 }
 
@@ -314,6 +365,8 @@ fn on_task<F: Files, K: Sink>(alloc: Global, task: &Task<'_>, files: &mut F, out
         Ok(names) => {
             if names.len() > MOST_FILES {
                 put(out, b"refused L1 -\n", Status::Refused)
+            } else if task.steps() > MOST_STEPS {
+                put(out, b"refused L9 -\n", Status::Refused)
             } else {
                 on_files(alloc, task, names.as_slice(), files, out)
             }
@@ -338,8 +391,9 @@ fn run<F: Files, K: Sink>(alloc: Global, words: &[String], files: &mut F, out: &
     }
 }
 
-/// Changes a program as the words ask (`generalize OUT FILE LINE COL TYPE -- FILES + LIBRARY FILES`), or checks it (`check -- FILES + LIBRARY FILES`), and puts
-/// a report. LINE and COL count from 1, columns in bytes. Words are read for every command; those that are not built yet are refused as N1.
+/// Changes a program as the words ask (`generalize OUT FILE LINE COL TYPE -- FILES + LIBRARY FILES`), checks it (`check -- FILES + LIBRARY FILES`), or runs the main
+/// method of a class within so many steps (`run STEPS CLASS = ARGS -- FILES + LIBRARY FILES`), and puts a report. LINE and COL count from 1, columns in bytes. Words
+/// are read for every command; those that are not built yet are refused as N1.
 ///
 /// Where `files` and `out` tell what they hold, each answer says of it what its clause says. `NoMemory` is free, before the first write or put.
 pub fn refactor<F: Files, K: Sink>(
@@ -351,6 +405,7 @@ pub fn refactor<F: Files, K: Sink>(
     // Of a change: the new file holds the old bytes under the reported edit, every other name is as before, and the old and the new program
     // have their trees and types, and their declarations break no rule; the new tree is the old one with the one type changed.
     // Of a check: the program breaks no rule, and the report names its unchecked operations; nothing is written.
+    // Of a run: the program breaks no rule, its main method ended normally, and the report has what it printed; nothing is written.
     ensures done { result ≡ Status.Done → IsDone (map string_bytes words.now) (F.holds files.old) (F.holds files.new) (K.written out.old) (K.written out.new) }
     // This is the first rule or constraint that stands against the words and the files; nothing is written.
     ensures refused { result ≡ Status.Refused → IsRefused (map string_bytes words.now) (F.holds files.old) (F.holds files.new) (K.written out.old) (K.written out.new) }
@@ -366,7 +421,9 @@ pub fn refactor<F: Files, K: Sink>(
     ensures cut { result ≡ Status.OutFault → Rose (K.faults out.old) (K.faults out.new) }
     // Nothing was written and nothing put.
     ensures no_memory { result ≡ Status.NoMemory → (F.holds files.new ≡ F.holds files.old) × (K.written out.new ≡ K.written out.old) }
-    ensures no_other { (result ≡ Status.Threw → ⊥) × (result ≡ Status.Bound → ⊥) }
+    // The run ended so, and the report has what was printed; nothing is written.
+    ensures threw { result ≡ Status.Threw → IsThrew (map string_bytes words.now) (F.holds files.old) (F.holds files.new) (K.written out.old) (K.written out.new) }
+    ensures bound { result ≡ Status.Bound → IsBound (map string_bytes words.now) (F.holds files.old) (F.holds files.new) (K.written out.old) (K.written out.new) }
 {
     run(alloc, words, files, out)
 }

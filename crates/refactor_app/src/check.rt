@@ -18,16 +18,18 @@ ghost use Rattle.refactor_app.specs.Words.{Files, inputs};
 use crate::declarations::Declared;
 use crate::lines::{broken_line, check_report};
 use checker::{CheckFault, check_files};
+use java_core::CoreProgram;
 use java_tree::tree::SourceUnit;
 use java_tree::{Broken, Family, Items, Names, NoMemory};
 use std::alloc::Global;
 
-/// The report of a check.
+/// What a check of files answers.
 #[derive(Drop)]
 pub enum CheckAnswer {
     /// The line that names the first broken rule.
     Refused(String),
-    Passed(String),
+    /// The report of a check, and the core of the program.
+    Passed { report: String, core: CoreProgram },
 }
 
 // A rule on types at a node.
@@ -113,9 +115,12 @@ pub fn check(
 {
     let (user, lib) = units.split_at(users);
     match check_files(alloc, &declared.world, &declared.members, table, user, lib) {
-        Ok(operations) => {
-            let report = check_report(alloc, file_names, texts, operations.as_slice())?;
-            Ok(CheckAnswer::Passed(report))
+        Ok(checked) => {
+            let report = check_report(alloc, file_names, texts, checked.operations.as_slice())?;
+            Ok(CheckAnswer::Passed {
+                report,
+                core: checked.core,
+            })
         }
         Err(fault) => stopped(alloc, file_names, texts, units, fault),
     }

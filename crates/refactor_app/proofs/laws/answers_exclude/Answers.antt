@@ -1,4 +1,4 @@
-use Rattle.refactor_app.proofs.Excluding.{usage, missing, refused}
+use Rattle.refactor_app.proofs.Excluding.{usage, missing, refused, threw, bound}
 use Rattle.refactor_app.proofs.laws.answers_exclude.Goals as goal
 
 pub returns-clause-usage : goal.returns-clause-usage
@@ -9,3 +9,9 @@ returns-clause-missing c = missing
 
 pub returns-clause-refused : goal.returns-clause-refused
 returns-clause-refused c = refused
+
+pub returns-clause-threw : goal.returns-clause-threw
+returns-clause-threw c = threw
+
+pub returns-clause-bound : goal.returns-clause-bound
+returns-clause-bound c = bound

@@ -1,0 +1,4 @@
+mod Bytes
+mod Comparing
+mod Digits
+mod Reading

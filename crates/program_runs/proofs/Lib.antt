@@ -1,0 +1,4 @@
+pub mod Constants
+pub mod Found
+pub mod Told
+pub mod Wrong

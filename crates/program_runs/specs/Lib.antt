@@ -1,0 +1,5 @@
+pub mod Answers
+pub mod Ends
+pub mod Pieces
+pub mod Starts
+pub mod Told

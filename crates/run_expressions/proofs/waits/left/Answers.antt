@@ -1,0 +1,4 @@
+use Rattle.run_expressions.proofs.waits.left.Goals as goal
+
+pub returns : goal.returns
+returns c k is = rw (← c.get.ensures) (c.evaluate.ensures k)

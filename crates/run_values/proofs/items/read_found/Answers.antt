@@ -1,0 +1,16 @@
+use Rattle.std.proofs.Common.{FitsSigned, rules, w32}
+use Rattle.std.proofs.lemmas.Int.{to_z-of_z}
+use Rattle.core_meaning.specs.State.{item_of}
+use Rattle.core_meaning.specs.Outcome.{Gives, with_some}
+use Rattle.run_frames.specs.Runs.{comes, whole}
+use Rattle.run_frames.proofs.Steps.{ok_as}
+use Rattle.run_values.proofs.Ways.{outside_as}
+use Rattle.run_values.proofs.items.read_found.Goals as goal
+
+pub returns-in-Outside : goal.returns-in-Outside
+returns-in-Outside c k =
+    let old = c.args.run.now in
+    let at = c.in-Outside.at in
+    let fits : FitsSigned w32 at = search rules in
+    let e = outside_as c.args.found at _ old.state (λ r j. with_some (item_of r j old.state) old.state (λ a. Gives a old.state)) c.in-Outside.is (to_z-of_z w32 at fits) in
+    ok_as c.throw_number.result (whole k c.throw_number.new.run) (comes k old) _ _ e (c.throw_number.ensures k)

@@ -1,0 +1,11 @@
+use Rattle.run_frames.specs.Runs.{comes, place_of, whole}
+use Rattle.run_frames.proofs.Steps.{ok_as}
+use Rattle.run_values.proofs.Ways.{read_owned}
+use Rattle.std.proofs.Common.{sym, ◌∙◌}
+use Rattle.run_values.proofs.variables.read_ready.Goals as goal
+
+pub returns-in-Some : goal.returns-in-Some
+returns-in-Some c k told =
+    let old = c.args.run.now in
+    let e = read_owned (place_of k old) c.args.field old.state c.in-Some.class (sym c.if-is_constant.false ∙ c.is_constant.ensures k told) (c.in-Some.ensures k told) in
+    ok_as c.initialise_for.result (whole k c.initialise_for.new.run) (comes k old) _ _ e (c.initialise_for.ensures k)

@@ -1,0 +1,4 @@
+pub mod Does
+pub mod Tests
+pub mod Found
+pub mod Arrays

@@ -1,0 +1,3 @@
+class FromNull {
+  public static void main(String[] x) { RuntimeException e = null; throw e; }
+}

@@ -1,0 +1,1 @@
+class Calls { public static void main(String[] x) { none(); } }

@@ -1,0 +1,1 @@
+class Flow { int f() { } }

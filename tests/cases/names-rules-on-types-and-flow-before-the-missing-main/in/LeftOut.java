@@ -1,0 +1,1 @@
+class LeftOut { float f; }

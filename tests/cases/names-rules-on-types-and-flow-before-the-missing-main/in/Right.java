@@ -1,0 +1,1 @@
+class Right { public static void main(String[] x) { System.out.print("never"); } }

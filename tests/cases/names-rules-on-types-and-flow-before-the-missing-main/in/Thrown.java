@@ -1,0 +1,1 @@
+class Thrown { public static void main(String[] x) { throw new Exception(); } }

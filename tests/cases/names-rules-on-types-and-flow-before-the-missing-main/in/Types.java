@@ -1,0 +1,1 @@
+class Types { int f = "text"; }

@@ -1,0 +1,2 @@
+package p;
+public class Library { public static void main(String[] x) { System.out.print("never"); } }

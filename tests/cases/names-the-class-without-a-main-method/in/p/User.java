@@ -1,0 +1,2 @@
+package p;
+class User { private static void main(String[] x) { } }

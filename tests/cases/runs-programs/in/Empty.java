@@ -1,0 +1,1 @@
+class Empty { public static void main(String[] x) { } }
