@@ -1,5 +1,5 @@
 -- What two codes have to agree in so that they run alike.
-use Rattle.std.specs.Prelude.{◌≡◌, ℕ, ◌<◌, ◌⊎◌, Bool, false, List, [], ◌∷◌, map, length, Option, Some, None, slice_get}
+use Rattle.std.specs.Prelude.{◌≡◌, ℕ, ◌<◌, ◌⊎◌, false, List, map, Option, Some, None, slice_get}
 use Rattle.std.specs.Option.{option_map}
 use Rattle.class_world.specs.declared.world.JavaType.{JavaType}
 use Rattle.class_world.specs.declared.world.MethodInfo.{MethodInfo}
@@ -50,10 +50,6 @@ method_owner c m = option_map (λ (i : MethodInfo). i.owner) (slice_get c.world.
 abbrev pub field_owner : Code → ℕ → Option ℕ
 field_owner c f = option_map (λ (i : FieldInfo). i.owner) (field_at c.world f)
 
--- the number is one of a type of the world
-abbrev pub IsKnown : Code → ℕ → Type 0
-IsKnown c k = k < length c.world.types
-
 -- what the methods and constructors do
 abbrev pub BodiesAlike : Pair → (c c' : Code) → Type 0
 BodiesAlike p c c' =
@@ -62,9 +58,8 @@ BodiesAlike p c c' =
 -- what types, methods and fields are
 pub record TablesAlike (p : Pair) (c c' : Code) : Type 0 where
   pub method_owner : (m : ℕ) → method_owner c' (p.ways.methods m) ≡ option_map p.ways.types (method_owner c m)
-  pub known : (m k : ℕ) → method_owner c m ≡ Some k → IsKnown c k
   pub field_owner : (f : ℕ) → field_owner c' (p.ways.fields f) ≡ option_map p.ways.types (field_owner c f)
-  pub superclass : (k : ℕ) → IsKnown c k → superclass c'.world (p.ways.types k) ≡ option_map p.ways.types (superclass c.world k)
+  pub superclass : (k : ℕ) → superclass c'.world (p.ways.types k) ≡ option_map p.ways.types (superclass c.world k)
   pub on_instance : (f : ℕ) → is_instance_field c'.world (p.ways.fields f) ≡ is_instance_field c.world f
   pub constant : (f : ℕ) → is_constant c' (p.ways.fields f) ≡ is_constant c f
   pub objects : (k : ℕ) → ThingAlike p.ways (new_object c k) (new_object c' (p.ways.types k))
@@ -93,5 +88,5 @@ pub record Correspond (p : Pair) (c c' : Code) : Type 0 where
   pub order : OrderKept p c c'
   pub calls : CallsFound p c c'
   pub bodies : BodiesAlike p c c'
-  pub class_fields : (k : ℕ) → IsKnown c k → FieldsAlike p (class_fields (class_at c k)) (class_fields (class_at c' (p.ways.types k)))
+  pub class_fields : (k : ℕ) → FieldsAlike p (class_fields (class_at c k)) (class_fields (class_at c' (p.ways.types k)))
   pub all_fields : FieldsAlike p (all_fields c) (all_fields c')

@@ -1,0 +1,5 @@
+mod Types
+mod Others
+mod Goes
+mod Simulate
+pub mod Runs
