@@ -1,4 +1,4 @@
-mod Types
+pub mod Types
 mod Others
 mod Goes
 mod Simulate

@@ -26,6 +26,12 @@ use Rattle.alike_laws.proofs.Types.{moved_class, moved_array}
 pub same_test : (a b c d : ℕ) → (a ≡ b → c ≡ d) → (c ≡ d → a ≡ b) → (a == b) ≡ (c == d)
 same_test a b c d h k = grind (arith, h, k)
 
+same_number : (a : ℕ) → (a == a) ≡ true
+same_number a = grind arith
+
+other_number : (a b : ℕ) → (a ≡ b → ⊥) → (a == b) ≡ false
+other_number a b h = grind (arith, h)
+
 -- ---- lists
 
 -- what a place of a list has after another one took a value
@@ -33,21 +39,17 @@ abbrev put_if : {A : Type 0} → Bool → A → Option A → Option A
 put_if true a o = option_map (λ b. a) o
 put_if false a o = o
 
+none_put : {A : Type 0} (b : Bool) (a : A) → None ≡ put_if b a None
+none_put true a = refl
+none_put false a = refl
+
 pub get_set : {A : Type 0} (xs : List A) (i j : ℕ) (a : A) → slice_get (slice_set xs i a) j ≡ put_if (i == j) a (slice_get xs j)
-get_set [] i zero a = at (i == 0)
-  where
-    at : {A : Type 0} {a : A} (b : Bool) → None ≡ put_if b a None
-    at true = refl
-    at false = refl
-get_set [] i (suc j) a = at (i == suc j)
-  where
-    at : {A : Type 0} {a : A} (b : Bool) → None ≡ put_if b a None
-    at true = refl
-    at false = refl
-get_set (x ∷ xs) zero zero a = refl
-get_set (x ∷ xs) zero (suc j) a = refl
-get_set (x ∷ xs) (suc i) zero a = refl
-get_set (x ∷ xs) (suc i) (suc j) a = get_set xs i j a
+get_set [] i zero a = none_put (i == 0) a
+get_set [] i (suc j) a = none_put (i == suc j) a
+get_set (x ∷ xs) zero zero a = ap (λ b. put_if b a (Some x)) (sym (same_number 0))
+get_set (x ∷ xs) zero (suc j) a = ap (λ b. put_if b a (slice_get xs j)) (sym (other_number 0 (suc j) (omega arith)))
+get_set (x ∷ xs) (suc i) zero a = ap (λ b. put_if b a (Some x)) (sym (other_number (suc i) 0 (omega arith)))
+get_set (x ∷ xs) (suc i) (suc j) a = get_set xs i j a ∙ ap (λ b. put_if b a (slice_get xs j)) (same_test i j (suc i) (suc j) (ap suc) (λ e. omega (arith, e)))
 
 pub length_set : {A : Type 0} (xs : List A) (i : ℕ) (a : A) → length (slice_set xs i a) ≡ length xs
 length_set [] i a = refl
@@ -65,13 +67,9 @@ set_moved f one xs ys h i a k =
 
 -- ---- fields
 
-pub held_with : (f k : ℕ) (a : Value) (hs : List Held) → held f (with_held k a hs) ≡ put_if (k == f) a (held f hs)
-held_with f k a [] = at (k == f)
-  where
-    at : (b : Bool) → None ≡ put_if b a None
-    at true = refl
-    at false = refl
-held_with f k a (h ∷ hs) = at (h.field == f) (h.field == k) (k == f) refl refl refl
+held_step : (f k : ℕ) (a : Value) (h : Held) (hs : List Held) → held f (with_held k a hs) ≡ put_if (k == f) a (held f hs)
+    → held f (with_held k a (h ∷ hs)) ≡ put_if (k == f) a (held f (h ∷ hs))
+held_step f k a h hs w = at (h.field == f) (h.field == k) (k == f) refl refl refl
   where
     at : (b c d : Bool) → (h.field == f) ≡ b → (h.field == k) ≡ c → (k == f) ≡ d
         → option_map (λ (x : Held). x.value) (if b then Some (with_value k a h) else find (λ x. x.field == f) (with_held k a hs))
@@ -80,7 +78,11 @@ held_with f k a (h ∷ hs) = at (h.field == f) (h.field == k) (k == f) refl refl
     at true false false e g i = ap (λ c. Some (if c then a else h.value)) g
     at true true false e g i = absurd (grind (arith, e, g, i))
     at true false true e g i = absurd (grind (arith, e, g, i))
-    at false c d e g i = held_with f k a hs ∙ ap (λ d. put_if d a (held f hs)) i
+    at false c d e g i = w ∙ ap (λ d. put_if d a (held f hs)) i
+
+pub held_with : (f k : ℕ) (a : Value) (hs : List Held) → held f (with_held k a hs) ≡ put_if (k == f) a (held f hs)
+held_with f k a [] = none_put (k == f) a
+held_with f k a (h ∷ hs) = held_step f k a h hs (held_with f k a hs)
 
 pub held_moved : (f : ℕ → ℕ) → IsOneToOne f → (hs hs' : List Held) → ((k : ℕ) → held (f k) hs' ≡ held k hs) → (i : ℕ) (a : Value) (k : ℕ)
     → held (f k) (with_held (f i) a hs') ≡ held k (with_held i a hs)
