@@ -86,7 +86,7 @@ module _ (p : Pair) (c c' : Code) (h : Correspond p c c') where
     wrong = ap (λ o. (after o).wrong) w.2;
   }
 
-  counts : (o : Outcome Value) → IsCounted p (result_of o) → Counts p.strict (after o).wrong
+  counts : (o : Outcome Value) → IsCounted p.strict (result_of o) → Counts p.strict (after o).wrong
   counts o (inl w) = subst (λ b. Counts b (after o).wrong) (sym w) tt
   counts o (inr w) = at p.strict
     where
@@ -94,7 +94,7 @@ module _ (p : Pair) (c c' : Code) (h : Correspond p c c') where
       at true = tt
       at false = w
 
-  runs_same : (d d' k n : ℕ) (args : List (List ℕ)) → d' ≡ d → IsCounted p (result_of (run_within c d k args n))
+  runs_same : (d d' k n : ℕ) (args : List (List ℕ)) → d' ≡ d → IsCounted p.strict (result_of (run_within c d k args n))
       → SameResult p.ways (result_of (run_within c d k args n)) (result_of (run_within c' d' (p.ways.types k) args n))
   runs_same d d' k n args e w = subst (λ d'. SameResult p.ways (result_of (run_within c d k args n)) (result_of (run_within c' d' (p.ways.types k) args n))) (sym e)
       (same_result _ _ ((within_follows d k n args).same (begins args n) (begun args n) (counts (run_within c d k args n) w)))

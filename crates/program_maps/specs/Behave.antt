@@ -1,5 +1,5 @@
 -- When two programs behave alike.
-use Rattle.std.specs.Prelude.{◌≡◌, ℕ, ◌⊎◌, true, false, List, map, Some}
+use Rattle.std.specs.Prelude.{◌≡◌, ℕ, ◌⊎◌, Bool, true, false, List, map, Some}
 use Rattle.core_meaning.specs.declared.values.End.{End}
 use Rattle.core_meaning.specs.declared.values.End.TheVariants as end
 use Rattle.core_meaning.specs.Code.{Code}
@@ -21,15 +21,15 @@ pub record SameResult (φ : Ways) (r r' : Result) : Type 0 where
   pub wrong : r'.wrong ≡ r.wrong
 
 -- all runs count, or those in which nothing goes wrong
-abbrev pub IsCounted : Pair → Result → Type 0
-IsCounted p r = (p.strict ≡ true) ⊎ (r.wrong ≡ false)
+abbrev pub IsCounted : (strict : Bool) → Result → Type 0
+IsCounted strict r = (strict ≡ true) ⊎ (r.wrong ≡ false)
 
 -- from each class that declares a main method, for all arguments and every bound
-abbrev pub BehaveAlike : Pair → (c c' : Code) → Type 0
-BehaveAlike p c c' =
+abbrev pub BehaveAlike : Ways → (strict : Bool) → (c c' : Code) → Type 0
+BehaveAlike φ strict c c' =
     (k m : ℕ) → main_of c k ≡ Some m → (args : List (List ℕ)) (n : ℕ)
-    → IsCounted p (result_of (run c k args n)) → SameResult p.ways (result_of (run c k args n)) (result_of (run c' (p.ways.types k) args n))
+    → IsCounted strict (result_of (run c k args n)) → SameResult φ (result_of (run c k args n)) (result_of (run c' (φ.types k) args n))
 
 -- programs that correspond behave alike
 abbrev pub CorrespondingAlike : Type 0
-CorrespondingAlike = (p : Pair) (c c' : Code) → Correspond p c c' → BehaveAlike p c c'
+CorrespondingAlike = (p : Pair) (c c' : Code) → Correspond p c c' → BehaveAlike p.ways p.strict c c'
