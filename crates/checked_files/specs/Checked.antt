@@ -7,6 +7,8 @@ use Rattle.java_core.specs.View.{program_plain}
 use Rattle.built_in_types.specs.BuiltIns.{with_words}
 use Rattle.source_files.specs.Trees.{AreTrees}
 use Rattle.source_files.specs.Answers.{HasParsed}
+use Rattle.class_world.specs.Sound.{IsSound}
+use Rattle.member_table.specs.Table.{HoldsMembers}
 use Rattle.checker.specs.Checking.{IsCheckedBy}
 use Rattle.checker.specs.declared.check.CheckedProgram.{CheckedProgram}
 use Rattle.checker.specs.declared.fault.CheckFault.{CheckFault}
@@ -41,3 +43,8 @@ AreChecked users texts (Err (files.Declared fault)) =
     (units : List SourceUnit) × (names : List (List ℕ)) × AreRead texts units names × AreJudged users names units (Err fault)
 AreChecked users texts (Err (files.Checked fault)) =
     (table : List (List ℕ)) × (units : List SourceUnit) × (d : Declared) × AreCheckedBy users texts table units d (Err fault)
+
+-- what its world and its members tell can be asked
+pub record AreAsked (x : CheckedFiles) : Type 0 where
+  pub sound : IsSound x.declared.world
+  pub members : HoldsMembers x.declared.world x.declared.members

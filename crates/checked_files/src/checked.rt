@@ -1,11 +1,11 @@
 //! The check of texts, by the way that it goes: trees, declarations, types and flow.
 
-ghost use Rattle.std.specs.Prelude.{◌≡◌, ◌≤◌, length, map, Ok};
+ghost use Rattle.std.specs.Prelude.{◌≡◌, ◌≤◌, length, map, Ok, IfOk};
 ghost use Rattle.java_tree.specs.Names.{built_in_names};
 ghost use Rattle.java_tree.specs.View.{unit_plain};
 ghost use Rattle.source_files.specs.Held.{AreSmall};
 ghost use Rattle.source_files.specs.Answers.{HasParsed};
-ghost use Rattle.checked_files.specs.Checked.{AreChecked, AreDeclaredIn};
+ghost use Rattle.checked_files.specs.Checked.{AreAsked, AreChecked, AreDeclaredIn};
 
 use crate::declarations::{Declared, judge_declarations};
 use checker::{CheckFault, CheckedProgram, check_files};
@@ -45,7 +45,8 @@ fn check_declared(
 ) -> Result<CheckedFiles, FilesFault>
     requires users { users ≤ length units }
     requires declared { AreDeclaredIn users texts.now names (map unit_plain units) declared }
-    ensures { AreChecked users texts.now result }
+    ensures checked { AreChecked users texts.now result }
+    ensures asked { IfOk result (λ x. AreAsked x) }
 {
     let (user, lib) = units.as_slice().split_at(users);
     match check_files(alloc, &declared.world, &declared.members, &names, user, lib) {
@@ -68,7 +69,8 @@ fn check_trees(
 ) -> Result<CheckedFiles, FilesFault>
     requires users { users ≤ length texts.now }
     requires trees { HasParsed texts.now (Ok parsed) }
-    ensures { AreChecked users texts.now result }
+    ensures checked { AreChecked users texts.now result }
+    ensures asked { IfOk result (λ x. AreAsked x) }
 {
     let Parsed { mut names, units } = parsed;
     match judge_declarations(alloc, users, units.as_slice(), &mut names) {
@@ -86,7 +88,8 @@ pub fn check_texts(
 ) -> Result<CheckedFiles, FilesFault>
     requires small { AreSmall texts.now }
     requires users { users ≤ length texts.now }
-    ensures { AreChecked users texts.now result }
+    ensures checked { AreChecked users texts.now result }
+    ensures asked { IfOk result (λ x. AreAsked x) }
 {
     match parse_files(alloc, texts) {
         Ok(parsed) => check_trees(alloc, texts, users, parsed),

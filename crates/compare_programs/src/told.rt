@@ -1,0 +1,47 @@
+//! What is put of a comparison, and the exit status: 0 where the programs are alike, 1 where they differ, 2 where one is no checked program.
+
+use crate::programs::{Compared, Stop};
+use alike_programs::Difference;
+use java_tree::NoMemory;
+use report_text::place_text;
+use std::alloc::Global;
+use tool_files::Sink;
+
+fn word(difference: Difference) -> &'static str {
+    match difference {
+        Difference::Tables => "differs in tables\n",
+        Difference::Order => "differs in the order of types\n",
+        Difference::Calls => "differs in what calls find\n",
+        Difference::Tree(_) => "differs in a tree\n",
+    }
+}
+
+// The line of a place in the old program's file with a number.
+fn line(alloc: Global, file: usize, place: edit_writer::Place, call: bool) -> Result<String, NoMemory> {
+    let mut text = String::new(alloc);
+    text.push_str(if call { "differs in a call at " } else { "differs at " })?;
+    text.push_str(place_text(alloc, "old", place)?.as_str())?;
+    Ok(text)
+}
+
+fn put<K: Sink>(out: &mut K, text: &str, status: u8) -> u8 {
+    match out.put(text.as_bytes()) {
+        Ok(()) => status,
+        Err(_) => 6,
+    }
+}
+
+/// Puts an answer, and gives the exit status.
+pub fn tell<K: Sink>(alloc: Global, answer: Result<Compared, Stop>, out: &mut K) -> u8 {
+    match answer {
+        Ok(Compared::Alike) => put(out, "alike\n", 0),
+        Ok(Compared::Differs(difference)) => put(out, word(difference), 1),
+        Ok(Compared::At { file, place, call }) => match line(alloc, file, place, call) {
+            Ok(text) => put(out, text.as_str(), 1),
+            Err(_) => 7,
+        },
+        Err(Stop::Old) => put(out, "the old files are no checked program\n", 2),
+        Err(Stop::New) => put(out, "the new files are no checked program\n", 2),
+        Err(Stop::NoMemory) => 7,
+    }
+}
