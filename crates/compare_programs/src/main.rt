@@ -7,7 +7,7 @@ mod programs;
 mod told;
 
 use asked::asked;
-use programs::{Stop, compared};
+use programs::compared;
 use std::env;
 use std::process::ExitCode;
 use std::rt::Env;
@@ -31,5 +31,5 @@ fn main(rt: HostRuntime) -> ExitCode {
     let mut files = DirFiles::new(&rt);
     let mut out = StdSink::new(&rt);
     let answer = compared(rt.alloc(), &asked, &mut files);
-    ExitCode::from(tell(rt.alloc(), answer, &mut out))
+    ExitCode::from(tell(rt.alloc(), &asked, answer, &mut out))
 }

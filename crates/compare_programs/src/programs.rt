@@ -107,8 +107,8 @@ fn named(program: &Program) -> Named<'_> {
 
 // The place of a node of a program.
 fn place_of(program: &Program, node: Node, call: bool) -> Option<Compared> {
-    let found = first_byte(program.checked.units.as_slice(), node.number)?;
-    let file = found.file as usize;
+    let found = first_byte(program.checked.units.as_slice(), node.id)?;
+    let file = found.file;
     let text = program.texts.get(file)?;
     let place = place_at(text.as_slice(), found.at as usize);
     Some(Compared::At { file, place, call })

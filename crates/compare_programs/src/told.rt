@@ -1,9 +1,9 @@
 //! What is put of a comparison, and the exit status: 0 where the programs are alike, 1 where they differ, 2 where one is no checked program.
 
+use crate::asked::Asked;
 use crate::programs::{Compared, Stop};
 use alike_programs::Difference;
 use java_tree::NoMemory;
-use report_text::place_text;
 use std::alloc::Global;
 use tool_files::Sink;
 
@@ -16,12 +16,18 @@ fn word(difference: Difference) -> &'static str {
     }
 }
 
-// The line of a place in the old program's file with a number.
-fn line(alloc: Global, file: usize, place: edit_writer::Place, call: bool) -> Result<String, NoMemory> {
-    let mut text = String::new(alloc);
-    text.push_str(if call { "differs in a call at " } else { "differs at " })?;
-    text.push_str(place_text(alloc, "old", place)?.as_str())?;
-    Ok(text)
+// The name of a file of the old program, by its number.
+fn name_of<'a>(asked: &Asked<'a>, file: usize) -> &'a str {
+    match asked.old.iter().chain(asked.libraries).nth(file) {
+        Some(name) => name.as_str(),
+        None => "-",
+    }
+}
+
+// The line of a difference: its file, its line and its column in bytes, both from 1.
+fn line(alloc: Global, name: &str, line: u32, col: u32, call: bool) -> Result<String, NoMemory> {
+    let what = if call { "differs in a call" } else { "differs" };
+    Ok(format!(in alloc; "{what} at {name}:{line}:{col}\n")?)
 }
 
 fn put<K: Sink>(out: &mut K, text: &str, status: u8) -> u8 {
@@ -32,14 +38,16 @@ fn put<K: Sink>(out: &mut K, text: &str, status: u8) -> u8 {
 }
 
 /// Puts an answer, and gives the exit status.
-pub fn tell<K: Sink>(alloc: Global, answer: Result<Compared, Stop>, out: &mut K) -> u8 {
+pub fn tell<K: Sink>(alloc: Global, asked: &Asked<'_>, answer: Result<Compared, Stop>, out: &mut K) -> u8 {
     match answer {
         Ok(Compared::Alike) => put(out, "alike\n", 0),
         Ok(Compared::Differs(difference)) => put(out, word(difference), 1),
-        Ok(Compared::At { file, place, call }) => match line(alloc, file, place, call) {
-            Ok(text) => put(out, text.as_str(), 1),
-            Err(_) => 7,
-        },
+        Ok(Compared::At { file, place, call }) => {
+            match line(alloc, name_of(asked, file), place.line, place.col, call) {
+                Ok(text) => put(out, text.as_str(), 1),
+                Err(_) => 7,
+            }
+        }
         Err(Stop::Old) => put(out, "the old files are no checked program\n", 2),
         Err(Stop::New) => put(out, "the new files are no checked program\n", 2),
         Err(Stop::NoMemory) => 7,
