@@ -93,6 +93,7 @@ module _ (c : Code) where
   abbrev Initialises : ℕ → Type 0
   Initialises d = (k : ℕ) → Always (initialise c d k) (initialise c (suc d) k)
 
+  -- the two places, given what is below them
   abbrev places : (d k : ℕ) → Calls d → Initialises d → Places
   places d k f g = record {
     code = c;
@@ -113,6 +114,7 @@ module _ (c : Code) where
   initialises_nothing : (k : ℕ) → Always (initialise c zero k) (initialise c zero k)
   initialises_nothing k s = progress_on (slice_get s.progress k) (λ s. ends {o = Bound s} (kept s) (kept s)) s
 
+  -- both places at that depth
   abbrev lowest : ℕ → Places
   lowest k = record {
     code = c;
@@ -147,6 +149,8 @@ module _ (c : Code) where
       let e : suc n + x ≡ suc (n + x) = omega arith in
       subst (λ d. Extends (run_within c (n + x) k args n) (run_within c d k args (suc n))) (sym e) (run_on (n + x) k args n).extends
 
+-- ---- results
+
 goes_itself : (r : Result) → GoesOn r r
 goes_itself r = record { printed = prefix_itself r.printed; entered = prefix_itself r.entered; wrong = λ w. w; ended = λ n. refl }
 
@@ -167,9 +171,11 @@ module _ (c : Code) (k : ℕ) (args : List (List ℕ)) where
   abbrev within : ℕ → Result
   within n = result_of (run c k args n)
 
+  -- one step more
   next_on : (n : ℕ) → GoesOn (within n) (within (suc n))
   next_on n = result_on (run c k args n) (run c k args (suc n)) (run_extends c _ k args n)
 
+  -- so many steps more
   later_on : (n j : ℕ) → GoesOn (within n) (within (j + n))
   later_on n zero = let e : 0 + n ≡ n = omega arith in subst (λ m. GoesOn (within n) (within m)) (sym e) (goes_itself (within n))
   later_on n (suc j) =
