@@ -1,5 +1,5 @@
 -- The run of a program: its main method with arguments, within a number of steps; and what is reported of it.
-use Rattle.std.specs.Prelude.{ℕ, zero, suc, ◌+◌, ◌==◌, Bool, false, not, ◌&&◌, List, [], ◌∷◌, ◌++◌, map, filter, flat_map, length, Option, Some, None, is_some, slice_get, take, option_and_then, unwrap_or, codes, decimal, if◌then◌else◌}
+use Rattle.std.specs.Prelude.{ℕ, zero, suc, ◌+◌, ◌==◌, Bool, false, not, ◌&&◌, List, [], ◌∷◌, ◌++◌, map, flat_map, length, replicate, count_by, Option, Some, None, is_some, slice_get, take, option_and_then, unwrap_or, codes, decimal, if◌then◌else◌}
 use Rattle.std.specs.List.{find}
 use Rattle.std.specs.Option.{option_map}
 use Rattle.std.specs.Str.{bytes_eq}
@@ -21,7 +21,7 @@ use Rattle.core_meaning.specs.declared.values.End.{End}
 use Rattle.core_meaning.specs.declared.values.End.TheVariants as end
 use Rattle.core_meaning.specs.declared.values.State.{State}
 use Rattle.core_meaning.specs.declared.values.Thing.TheVariants.{Object, Array}
-use Rattle.core_meaning.specs.Texts.{units_of_bytes}
+use Rattle.core_meaning.specs.Texts.{units_of_bytes, row_count}
 use Rattle.core_meaning.specs.BuiltIns.{print_stream, string_class, out_field, object_class}
 use Rattle.core_meaning.specs.Outcome.{Outcome, Gives, Threw, Bound, after, and_then, with_some, choose}
 use Rattle.core_meaning.specs.Code.{Code, classes_of, class_fields, default_value, is_constant}
@@ -55,7 +55,7 @@ start c args n = record {
   left = n;
   heap = Object print_stream [] v.Null ∷ Array (ty.Class string_class []) (arguments 0 (length args)) ∷ [];
   texts = map units_of_bytes args;
-  literals = [];
+  literals = replicate row_count [];
   statics = statics_from c.world 0 c.world.fields;
   progress = map first_progress c.world.types;
   frame = entered_with v.Null [];
@@ -128,11 +128,15 @@ run_within c d k args n =
     and_then (constants_given (place_at c d k) (all_fields c) (start c args n)) (λ u s. and_then (initialise c d k s) (λ u s.
     with_some (main_of c k) s (λ m. enter c d m v.Null (v.Ref 1 ∷ []) s)))
 
--- No more types than these are ever initialised: an interface is where it has a field (JLS 12.4.1). A program with one more interface, which has none, has the same number.
-abbrev pub most_initialised : World → ℕ
-most_initialised w = length (filter (λ (i : TypeInfo). not i.interface) w.types) + length w.fields
+abbrev pub is_class : TypeInfo → Bool
+is_class i = not i.interface
 
--- A depth that is enough: no more calls are open than steps are taken, and no more initialisations than there can be.
+-- At least as many as the types that can be initialised: classes, and interfaces with a field. An interface without one is never initialised and counts for nothing
+-- here, so programs that differ in such interfaces alone run in the same depth.
+abbrev pub most_initialised : World → ℕ
+most_initialised w = count_by is_class w.types + length w.fields
+
+-- A depth that is enough: no more calls are open than steps are taken, and no more initialisations than there are types that can be initialised.
 abbrev pub run : Code → (class : ℕ) → (args : List (List ℕ)) → (n : ℕ) → Outcome Value
 run c k args n = run_within c (n + most_initialised c.world) k args n
 

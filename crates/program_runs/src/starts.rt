@@ -1,6 +1,6 @@
 //! The state before a run.
 
-ghost use Rattle.std.specs.Prelude.{◌≡◌, IfOk, map};
+ghost use Rattle.std.specs.Prelude.{◌≡◌, [], IfOk, map, replicate};
 ghost use Rattle.std.specs.String.{string_bytes};
 ghost use Rattle.core_meaning.specs.Runs as spec;
 ghost use Rattle.core_meaning.specs.Texts.{units_of_bytes};
@@ -8,7 +8,7 @@ ghost use Rattle.running_code.specs.Running.{IsReady, Makes};
 ghost use Rattle.program_runs.specs.Starts.{first_heap};
 
 use class_world::{JavaType, TypeInfo, World};
-use core_meaning::{Frame, Progress, State, Thing, Value};
+use core_meaning::{Frame, LITERAL_ROWS, Progress, State, Thing, Value};
 use java_strings::units_of_bytes;
 use java_tree::{Items, NoMemory};
 use run_state::arrays::default_value;
@@ -110,6 +110,17 @@ fn first_heap(alloc: Global, count: usize) -> Result<Items<Thing>, NoMemory>
     Ok(heap)
 }
 
+// So many rows, with no literal yet.
+fn empty_rows(alloc: Global, count: u32) -> Result<Items<Items<u64>>, NoMemory>
+    ensures { IfOk result (λ r. r ≡ replicate count []) }
+{
+    let mut rows = Items::new(alloc);
+    for _ in 0..count {
+        rows.push(Items::new(alloc))?;
+    }
+    Ok(rows)
+}
+
 /// The state in which a program starts with these arguments, and with so many steps.
 pub(crate) fn start(
     alloc: Global,
@@ -124,7 +135,7 @@ pub(crate) fn start(
         left: steps,
         heap: first_heap(alloc, args.len())?,
         texts: argument_texts(alloc, args)?,
-        literals: Items::new(alloc),
+        literals: empty_rows(alloc, LITERAL_ROWS)?,
         statics: statics_of(alloc, g.world)?,
         progress: progress_of(alloc, g.world.types.as_slice())?,
         frame: Frame {
