@@ -182,9 +182,9 @@ module _ (p : Pair) where
     throws_follows g c a s e = record {
       fine = λ e. e;
       same = λ x o w. (
-          with_pushed x (x.heap ++ Object c [] a ∷ []),
-          record { heap = things_pushed p.ways _ _ _ _ o.heap (sym e, refl, λ f. refl); statics = o.statics; progress = o.progress },
-          ap (λ r. Threw r (with_thing (Object c [] a) (image p.ways s x))) (things_length p.ways _ _ o.heap),
+        with_pushed x (x.heap ++ Object c [] a ∷ []),
+        record { heap = things_pushed p.ways _ _ _ _ o.heap (sym e, refl, λ f. refl); statics = o.statics; progress = o.progress },
+        ap (λ r. Threw r (with_thing (Object c [] a) (image p.ways s x))) (things_length p.ways _ _ o.heap),
       );
     }
 

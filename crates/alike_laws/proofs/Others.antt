@@ -73,7 +73,7 @@ held_step f k a h hs w = at (h.field == f) (h.field == k) (k == f) refl refl ref
   where
     at : (b c d : Bool) → (h.field == f) ≡ b → (h.field == k) ≡ c → (k == f) ≡ d
         → option_map (λ (x : Held). x.value) (if b then Some (with_value k a h) else find (λ x. x.field == f) (with_held k a hs))
-            ≡ put_if d a (option_map (λ (x : Held). x.value) (if b then Some h else find (λ x. x.field == f) hs))
+        ≡ put_if d a (option_map (λ (x : Held). x.value) (if b then Some h else find (λ x. x.field == f) hs))
     at true true true e g i = ap (λ c. Some (if c then a else h.value)) g
     at true false false e g i = ap (λ c. Some (if c then a else h.value)) g
     at true true false e g i = absurd (grind (arith, e, g, i))

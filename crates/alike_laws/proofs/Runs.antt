@@ -30,8 +30,8 @@ module _ (p : Pair) (c c' : Code) (h : Correspond p c c') where
   constants_follow d k [] [] s w = gave p tt s
   constants_follow d k (x ∷ xs) (x' ∷ xs') s w = rw w.0.0 (rw (h.tables.constant x.field) (and_so p _ _ _ _ _
       (choose_follows p (λ a. a) (is_constant c x.field) _ _ _ _ s
-          (given_follows p c c' h (enter c d) (enter c' d) (initialise c d) (initialise c' d) _ (enter_follows p c c' h d) (initialise_follows p c c' h d) k x.field x.init x'.init s w.0.1)
-          (gave p tt s))
+      (given_follows p c c' h (enter c d) (enter c' d) (initialise c d) (initialise c' d) _ (enter_follows p c c' h d) (initialise_follows p c c' h d) k x.field x.init x'.init s w.0.1)
+      (gave p tt s))
       (λ f s. constants_follow d k xs xs' s w.1)))
   constants_follow d k _ _ s w = absurd w
 
@@ -42,8 +42,8 @@ module _ (p : Pair) (c c' : Code) (h : Correspond p c c') where
   begun : (args : List (List ℕ)) (n : ℕ) → OtherOf p.ways (key (start c args n)) (begins args n)
   begun args n = record {
     heap = (
-        (sym (h.built_in.types print_stream (omega arith)), refl, λ f. refl),
-        ((erased_class string_class [], ap (λ k. ty.Class k []) (sym (h.built_in.types string_class (omega arith))) ∙ sym (moved_class p.ways.types string_class []), refl), tt),
+      (sym (h.built_in.types print_stream (omega arith)), refl, λ f. refl),
+      ((erased_class string_class [], ap (λ k. ty.Class k []) (sym (h.built_in.types string_class (omega arith))) ∙ sym (moved_class p.ways.types string_class []), refl), tt),
     );
     statics = h.tables.statics;
     progress = h.tables.progress;
@@ -51,8 +51,8 @@ module _ (p : Pair) (c c' : Code) (h : Correspond p c c') where
 
   within_follows : (d k n : ℕ) (args : List (List ℕ))
       → Follows p (start c args n) (run_within c d k args n)
-          (λ u. and_then (constants_given (place_at c' d (p.ways.types k)) (all_fields c') (image p.ways (start c args n) u)) (λ u s.
-              and_then (initialise c' d (p.ways.types k) s) (λ u s. with_some (main_of c' (p.ways.types k)) s (λ m. enter c' d m v.Null (v.Ref 1 ∷ []) s))))
+      (λ u. and_then (constants_given (place_at c' d (p.ways.types k)) (all_fields c') (image p.ways (start c args n) u)) (λ u s.
+      and_then (initialise c' d (p.ways.types k) s) (λ u s. with_some (main_of c' (p.ways.types k)) s (λ m. enter c' d m v.Null (v.Ref 1 ∷ []) s))))
   within_follows d k n args = and_so p _ _ _ _ _ (constants_follow d k (all_fields c) (all_fields c') (start c args n) h.all_fields) (λ u s.
       and_so p _ _ _ _ _ (initialise_follows p c c' h d k s) (λ u s.
       some_follows p h.built_in (λ a. a) p.ways.methods (main_of c k) (λ u. main_of c' (p.ways.types k)) s _ _ (λ x o. inl (h.tables.mains k)) (λ m w.

@@ -143,7 +143,7 @@ module _ (p : Pair) (c c' : Code) (h : Correspond p c c') where
       → Follows p s (with_some (type_of a s) s (λ u. f (is_below c u t) s)) (λ x. with_some (type_of a (image φ s x)) (image φ s x) (λ u. f' (is_below c' u t') (image φ s x)))
   by_type_follows a t t' s f f' k i =
       some_follows p keeps (λ a. a) (moved φ.types) (type_of a s) (λ x. type_of a (image φ s x)) s _ _ (λ x o. inl (type_found a s x o)) (λ u w.
-          retold p (λ x o. ap (λ b. f' b (image φ s x)) (below_moved u t t' (is_erased a s x o u w) k)) (i (is_below c u t)))
+      retold p (λ x o. ap (λ b. f' b (image φ s x)) (below_moved u t t' (is_erased a s x o u w) k)) (i (is_below c u t)))
 
   -- an option of what has an owner
   owner_follows : {A A' B : Type 0} (own : A → ℕ) (own' : A' → ℕ) (o : Option A) (o' : Option A') (s : State) (f : ℕ → Outcome B) (f' : Other → ℕ → Outcome B)
@@ -178,9 +178,9 @@ module _ (p : Pair) (c c' : Code) (h : Correspond p c c') where
   static_gives a f b s = record {
     fine = λ e. e;
     same = λ x o e. (
-        record { heap = x.heap; statics = slice_set x.statics (φ.fields f) (Some b); progress = x.progress },
-        record { heap = o.heap; statics = set_moved φ.fields h.fields _ _ o.statics f (Some b); progress = o.progress },
-        refl,
+      record { heap = x.heap; statics = slice_set x.statics (φ.fields f) (Some b); progress = x.progress },
+      record { heap = o.heap; statics = set_moved φ.fields h.fields _ _ o.statics f (Some b); progress = o.progress },
+      refl,
     );
   }
 
@@ -200,7 +200,15 @@ module _ (p : Pair) (c c' : Code) (h : Correspond p c c') where
     where
       at : List ℕ → State
       at l = record {
-        left = s.left; heap = x.heap; texts = s.texts; literals = s.literals; statics = x.statics; progress = x.progress; frame = g; printed = s.printed; entered = l;
+        left = s.left;
+        heap = x.heap;
+        texts = s.texts;
+        literals = s.literals;
+        statics = x.statics;
+        progress = x.progress;
+        frame = g;
+        printed = s.printed;
+        entered = l;
         wrong = s.wrong;
       }
 
@@ -220,7 +228,7 @@ module _ (p : Pair) (c c' : Code) (h : Correspond p c c') where
     or_follows : (a : Value) (t t' : JavaType) (s : State) (other other' : State → Outcome Value) → ErasedAlike p t t'
         → Follows p s (other s) (λ x. other' (image φ s x))
         → Follows p s (with_some (type_of a s) s (λ u. choose (is_below c u t) (λ s. Gives a s) other s))
-            (λ x. with_some (type_of a (image φ s x)) (image φ s x) (λ u. choose (is_below c' u t') (λ s. Gives a s) other' (image φ s x)))
+        (λ x. with_some (type_of a (image φ s x)) (image φ s x) (λ u. choose (is_below c' u t') (λ s. Gives a s) other' (image φ s x)))
     or_follows a t t' s other other' w i =
         by_type_follows a t t' s (λ b s. choose b (λ s. Gives a s) other s) (λ b s. choose b (λ s. Gives a s) other' s) w (λ b.
         choose_follows p (λ a. a) b _ _ _ _ s (gave p a s) i)
@@ -241,14 +249,14 @@ module _ (p : Pair) (c c' : Code) (h : Correspond p c c') where
     raised u t t' d g w i j b e =
         let class_kept : moved φ.types (erased t) ≡ ty.Class (φ.types d) [] = ap (moved φ.types) i ∙ moved_class φ.types d [] in
         let first : c'.sub (moved φ.types u) (ty.Class (φ.types d) []) ≡ true =
-            ap (c'.sub (moved φ.types u)) (sym class_kept) ∙ h.order u (erased t) w (erased_twice t) ∙ e in
+        ap (c'.sub (moved φ.types u)) (sym class_kept) ∙ h.order u (erased t) w (erased_twice t) ∙ e in
         let under = (h.told.sub (moved φ.types u) (ty.Class (φ.types d) [])).0 first in
         let there = subst (λ w. AreBoth w (ty.Class (φ.types d) []) (ty.Class g []) × Subtype w (ty.Class (φ.types d) []) (ty.Class g [])) h.world b in
         ap (c'.sub (moved φ.types u)) j ∙ (h.told.sub (moved φ.types u) (ty.Class g [])).1 ((under.0.0, there.0.1), through under.1 there.1)
 
     implied_typed : (a : Value) (t t' : JavaType) (s : State) → CastAlike p t t'
         → Follows p s (with_some (type_of a s) s (λ u. choose (is_below c u t) (λ s. Gives a s) misfit s))
-            (λ x. with_some (type_of a (image φ s x)) (image φ s x) (λ u. choose (is_below c' u t') (λ s. Gives a s) misfit (image φ s x)))
+        (λ x. with_some (type_of a (image φ s x)) (image φ s x) (λ u. choose (is_below c' u t') (λ s. Gives a s) misfit (image φ s x)))
     implied_typed a t t' s (inl w) = or_follows a t t' s misfit misfit w (misfit_follows p keeps (λ a. a) s)
     implied_typed a t t' s (inr w) =
         some_follows p keeps (λ a. a) (moved φ.types) (type_of a s) (λ x. type_of a (image φ s x)) s _ _ (λ x o. inl (type_found a s x o)) (λ u i. at u i (is_below c u t) refl)
@@ -276,7 +284,7 @@ module _ (p : Pair) (c c' : Code) (h : Correspond p c c') where
 
     instance_typed : (a : Value) (t t' : JavaType) (s : State) → ErasedAlike p t t'
         → Follows p s (with_some (type_of a s) s (λ u. Gives (v.Truth (is_below c u t)) s))
-            (λ x. with_some (type_of a (image φ s x)) (image φ s x) (λ u. Gives (v.Truth (is_below c' u t')) (image φ s x)))
+        (λ x. with_some (type_of a (image φ s x)) (image φ s x) (λ u. Gives (v.Truth (is_below c' u t')) (image φ s x)))
     instance_typed a t t' s w = by_type_follows a t t' s (λ b s. Gives (v.Truth b) s) (λ b s. Gives (v.Truth b) s) w (λ b. gave p (v.Truth b) s)
 
     instance_follows : (t t' : JavaType) (a : Value) (s : State) → ErasedAlike p t t' → Follows p s (instance_of old t a s) (λ x. instance_of new t' a (image φ s x))
@@ -292,11 +300,11 @@ module _ (p : Pair) (c c' : Code) (h : Correspond p c c') where
 
     hold_typed : (a : Value) (t : JavaType) (s : State) (go go' : State → Outcome Value) → Follows p s (go s) (λ x. go' (image φ s x))
         → Follows p s (with_some (type_of a s) s (λ u. choose (is_below c u t) go (throws_plain built.array_store_exception) s))
-            (λ x. with_some (type_of a (image φ s x)) (image φ s x) (λ u. choose (is_below c' u (moved φ.types t)) go' (throws_plain built.array_store_exception) (image φ s x)))
+        (λ x. with_some (type_of a (image φ s x)) (image φ s x) (λ u. choose (is_below c' u (moved φ.types t)) go' (throws_plain built.array_store_exception) (image φ s x)))
     hold_typed a t s go go' w =
         by_type_follows a t (moved φ.types t) s (λ b s. choose b go (throws_plain built.array_store_exception) s) (λ b s. choose b go' (throws_plain built.array_store_exception) s)
-            (erased_moved φ.types (keeps.types object_class (omega arith)) t) (λ b. choose_follows p (λ a. a) b _ _ _ _ s w
-            (plain_follows p keeps (λ a. a) built.array_store_exception s (keeps.types built.array_store_exception (omega arith))))
+        (erased_moved φ.types (keeps.types object_class (omega arith)) t) (λ b. choose_follows p (λ a. a) b _ _ _ _ s w
+        (plain_follows p keeps (λ a. a) built.array_store_exception s (keeps.types built.array_store_exception (omega arith))))
 
     may_hold_follows : (a : Value) (t : JavaType) (s : State) (go go' : State → Outcome Value) → Follows p s (go s) (λ x. go' (image φ s x))
         → Follows p s (may_hold c t a s go) (λ x. may_hold c' (moved φ.types t) a (image φ s x) go')
@@ -417,7 +425,7 @@ module _ (p : Pair) (c c' : Code) (h : Correspond p c c') where
     chars_follow : (line : Bool) (a : Value) (s : State) → Follows p s (print_chars line a s) (λ x. print_chars line a (image φ s x))
     chars_follow line a s = reference_follows p keeps (λ a. a) a s _ _ (λ r.
         known_follows p keeps (λ a. a) (option_and_then chars_of (items_of r s)) (λ x. option_and_then chars_of (items_of r (image φ s x))) s _ _
-            (λ x o. ap (option_and_then chars_of) (items_found r s x o)) (λ us e. printed_follows line us s))
+        (λ x o. ap (option_and_then chars_of) (items_found r s x o)) (λ us e. printed_follows line us s))
 
     plain_does : (y : BuiltIn) (a : Value) (xs : List Value) (s : State) → Follows p s (plain y a xs s) (λ x. plain y a xs (image φ s x))
     plain_does b.NewObject a xs s = none_follows xs s _ _ (gave p v.Null s)
@@ -589,9 +597,9 @@ module _ (p : Pair) (c c' : Code) (h : Correspond p c c') where
     array_gives r t xs s w = record {
       fine = λ e. e;
       same = λ x o e. (
-          with_heap x (slice_set x.heap r (Array (moved φ.types t) xs)),
-          record { heap = things_set φ (Array t xs) (Array (moved φ.types t) xs) (w, refl, refl) r _ _ o.heap; statics = o.statics; progress = o.progress },
-          refl,
+        with_heap x (slice_set x.heap r (Array (moved φ.types t) xs)),
+        record { heap = things_set φ (Array t xs) (Array (moved φ.types t) xs) (w, refl, refl) r _ _ o.heap; statics = o.statics; progress = o.progress },
+        refl,
       );
     }
 
@@ -619,7 +627,7 @@ module _ (p : Pair) (c c' : Code) (h : Correspond p c c') where
     arrays_follow (m ∷ ms) t w s =
         some_follows p keeps (λ a. a) (moved φ.types) (element t) (λ x. element (moved φ.types t)) s _ _ (λ x o. inl (element_moved φ.types t)) (λ u e.
         array_follows u m (repeated m (arrays_of ms u)) (repeated m (arrays_of ms (moved φ.types u))) (element_of_erased t u w e)
-            (repeated_follows m (arrays_of ms u) (arrays_of ms (moved φ.types u)) (arrays_follow ms u (element_of_erased t u w e))) s)
+        (repeated_follows m (arrays_of ms u) (arrays_of ms (moved φ.types u)) (arrays_follow ms u (element_of_erased t u w e))) s)
 
     sized_follows : (t t' : JavaType) (xs : List Value) (s : State) → ArrayAlike p t t' → Follows p s (sized t xs s) (λ x. sized t' xs (image φ s x))
     sized_follows t t' xs s w = retold p (λ x o. ap (λ t. sized t xs (image φ s x)) w.1)
@@ -655,7 +663,7 @@ module _ (p : Pair) (c c' : Code) (h : Correspond p c c') where
         at : (j : ℕ) (s : State) → Follows p s
             (and_then (args (with_thing (new_object c j) s)) (λ xs t. and_then (invoked old m (v.Ref (length s.heap)) xs t) (λ a t. Gives (v.Ref (length s.heap)) t)))
             (λ x. and_then (args' (with_thing (new_object c' (φ.types j)) (image φ s x))) (λ xs t.
-                and_then (invoked new (φ.methods m) (v.Ref (length x.heap)) xs t) (λ a t. Gives (v.Ref (length x.heap)) t)))
+            and_then (invoked new (φ.methods m) (v.Ref (length x.heap)) xs t) (λ a t. Gives (v.Ref (length x.heap)) t)))
         at j s =
             retold p (λ x o. ap (λ r. and_then (args' (with_thing (new_object c' (φ.types j)) (image φ s x))) (λ xs t. and_then (invoked new (φ.methods m) (v.Ref r) xs t) (λ a t. Gives (v.Ref r) t))) (things_length φ _ _ o.heap))
             (from p (λ x. with_heap x (x.heap ++ new_object c' (φ.types j) ∷ [])) (λ e. e) (λ x o. pushed s x (new_object c j) (new_object c' (φ.types j)) o (h.tables.objects j))
@@ -926,9 +934,9 @@ module _ (p : Pair) (c c' : Code) (h : Correspond p c c') where
         → Follows p s (next_before old w j x t i a s) (λ u. next_before new (moved_walk φ w) j x' t' i' a (image φ s u))
     next_follows w j x x' t t' i i' a s f g =
         and_so p _ _ _ _ _ (called_follows w.has_next (φ.methods w.has_next) a [] s (inl refl)) (λ b s. truth_follows p keeps b s _ _ _ _
-            (and_so p _ _ _ _ _ (called_follows w.next (φ.methods w.next) a [] s (inl refl)) (λ y s.
-                and_so p _ _ _ _ _ (cast_if_follows i i' t t' y s g) (λ y s. taken_follows j x x' y s f)))
-            (gave p false s))
+        (and_so p _ _ _ _ _ (called_follows w.next (φ.methods w.next) a [] s (inl refl)) (λ y s.
+        and_so p _ _ _ _ _ (cast_if_follows i i' t t' y s g) (λ y s. taken_follows j x x' y s f)))
+        (gave p false s))
 
     walked_follows : (w : Option Walk) (j : ℕ) (x x' t t' : JavaType) (i i' : Bool) (a : Value) (run run' : State → Outcome Ending) (s : State) → FitAlike x x'
         → ImpliedAlike p i i' t t' → ((s : State) → Follows p s (run s) (λ u. run' (image φ s u)))
@@ -936,7 +944,7 @@ module _ (p : Pair) (c c' : Code) (h : Correspond p c c') where
     walked_follows None j x x' t t' i i' a run run' s f g l = misfit_follows p keeps (λ a. a) s
     walked_follows (Some w) j x x' t t' i i' a run run' s f g l =
         and_so p _ _ _ _ _ (called_follows w.iterator (φ.methods w.iterator) a [] s (inl refl)) (λ it s.
-            loop_follows p turns 0 _ _ run run' (λ y s. next_follows w j x x' t t' i i' it s f g) l s)
+        loop_follows p turns 0 _ _ run run' (λ y s. next_follows w j x x' t t' i i' it s f g) l s)
 
     each_follows : (o o' : Option JavaType) (j : ℕ) (x x' t t' : JavaType) (i i' : Bool) (a : Value) (run run' : State → Outcome Ending) (s : State)
         → is_some o' ≡ is_some o → FitAlike x x' → ImpliedAlike p i i' t t' → ((s : State) → Follows p s (run s) (λ u. run' (image φ s u)))
@@ -989,7 +997,7 @@ module _ (p : Pair) (c c' : Code) (h : Correspond p c c') where
       stmt_follows (e.Do i y x) (e.Do i' y' x') s w = do_follows p turns _ _ _ _ (λ s. stmt_follows y y' s w.0) (λ s. tested_follows x x' s w.1) s
       stmt_follows (e.For i xs x us y) (e.For i' xs' x' us' y') s w = and_so p _ _ _ _ _ (stmts_follow xs xs' s w.0) (λ f s.
           loop_follows p turns 0 _ _ _ _ (λ j s. tested_or_follows x x' s w.1)
-              (λ s. and_so p _ _ _ _ _ (stmt_follows y y' s w.3) (λ g s. updates_follow g us us' s w.2)) s)
+          (λ s. and_so p _ _ _ _ _ (stmt_follows y y' s w.3) (λ g s. updates_follow g us us' s w.2)) s)
       stmt_follows (e.ForEach i f o x y t j z) (e.ForEach i' f' o' x' y' t' j' z') s w = rw w.0.0 (and_so p _ _ _ _ _ (value_follows y y' s w.3) (λ a s.
           each_follows (element (ty_of y)) (element (ty_of y')) x.slot x.ty x'.ty t t' j j' a _ _ s w.1 w.0.1 w.2 (λ s. stmt_follows z z' s w.4)))
       stmt_follows (e.Switch i x gs) (e.Switch i' x' gs') s w = and_so p _ _ _ _ _ (value_follows x x' s w.0) (λ a s.
@@ -1038,8 +1046,8 @@ module _ (p : Pair) (c c' : Code) (h : Correspond p c c') where
       caught_follows r e.NoCatch e.NoCatch s w = threw p (λ a. a) r s
       caught_follows r (e.AndCatch (e.Caught i x y) cs) (e.AndCatch (e.Caught i' x' y') cs') s w = rw w.0.0.0 (
           by_type_follows (v.Ref r) x.ty x'.ty s
-              (λ b s. choose b (λ s. stmt old y (with_local x.slot (v.Ref r) s)) (caught old r cs) s) (λ b s. choose b (λ s. stmt new y' (with_local x.slot (v.Ref r) s)) (caught new r cs') s)
-              w.0.0.1 (λ b. choose_follows p (λ a. a) b _ _ _ _ s (stmt_follows y y' (with_local x.slot (v.Ref r) s) w.0.1) (caught_follows r cs cs' s w.1)))
+          (λ b s. choose b (λ s. stmt old y (with_local x.slot (v.Ref r) s)) (caught old r cs) s) (λ b s. choose b (λ s. stmt new y' (with_local x.slot (v.Ref r) s)) (caught new r cs') s)
+          w.0.0.1 (λ b. choose_follows p (λ a. a) b _ _ _ _ s (stmt_follows y y' (with_local x.slot (v.Ref r) s) w.0.1) (caught_follows r cs cs' s w.1)))
       caught_follows r _ _ s w = absurd w
 
     -- ---- bodies and initialisation
@@ -1152,9 +1160,9 @@ module _ (p : Pair) (c c' : Code) (h : Correspond p c c') where
         (λ j. with_some (body_of c j m) s (λ y. entered (place_with c (enter c d) (initialise c d) (suc d) j) m y a xs s))
         (λ u j. with_some (body_of c' j (φ.methods m)) (image φ s u) (λ y. entered (place_with c' (enter c' d) (initialise c' d) (suc d) j) (φ.methods m) y a xs (image φ s u)))
         (h.tables.method_owner m) (λ j w. with_bodies m j s
-            (λ y s. entered (place_with c (enter c d) (initialise c d) (suc d) j) m y a xs s)
-            (λ y s. entered (place_with c' (enter c' d) (initialise c' d) (suc d) (φ.types j)) (φ.methods m) y a xs s) w (λ y y' g.
-            body_entered (enter c d) (enter c' d) (initialise c d) (initialise c' d) (suc d) (enter_follows d) (initialise_follows d) j m y y' a xs s g))
+        (λ y s. entered (place_with c (enter c d) (initialise c d) (suc d) j) m y a xs s)
+        (λ y s. entered (place_with c' (enter c' d) (initialise c' d) (suc d) (φ.types j)) (φ.methods m) y a xs s) w (λ y y' g.
+        body_entered (enter c d) (enter c' d) (initialise c d) (initialise c' d) (suc d) (enter_follows d) (initialise_follows d) j m y y' a xs s g))
 
     pub initialise_follows : (d j : ℕ) (s : State) → Follows p s (initialise c d j s) (λ u. initialise c' d (φ.types j) (image φ s u))
     initialise_follows zero j s = by_progress_follows j s _ _ (bound p (λ a. a) s)

@@ -164,11 +164,11 @@ module _ (c c' : Code) (f : ℕ → ℕ) (names : (k : ℕ) → full_name c' (f 
       (λ q. ap (fold-JavaType (List ℕ) (element_name c')) (moved_primitive f q) ∙ told c' (ty.Prim q) _ (ty.outs-Prim q) ∙ letter q ∙ sym (told c (ty.Prim q) _ (ty.outs-Prim q)))
       (ap (fold-JavaType (List ℕ) (element_name c')) (moved_null f) ∙ told c' ty.Null _ ty.outs-Null ∙ of_name object_named ∙ sym (told c ty.Null _ ty.outs-Null))
       (λ k xs. ap (fold-JavaType (List ℕ) (element_name c')) (moved_class f k xs) ∙ told c' (ty.Class (f k) (map (moved f) xs)) _ (ty.outs-Class (f k) (map (moved f) xs))
-          ∙ of_name (names k) ∙ sym (told c (ty.Class k xs) _ (ty.outs-Class k xs)))
+      ∙ of_name (names k) ∙ sym (told c (ty.Class k xs) _ (ty.outs-Class k xs)))
       (λ k. ap (fold-JavaType (List ℕ) (element_name c')) (moved_variable f k) ∙ told c' (ty.Var k) _ (ty.outs-Var k) ∙ of_name object_named
-          ∙ sym (told c (ty.Var k) _ (ty.outs-Var k)))
+      ∙ sym (told c (ty.Var k) _ (ty.outs-Var k)))
       (λ x h. ap (fold-JavaType (List ℕ) (element_name c')) (moved_array f x) ∙ told c' (ty.Array (moved f x)) _ (ty.outs-Array (moved f x))
-          ∙ ap (λ n. codes "[" ++ n) h ∙ sym (told c (ty.Array x) _ (ty.outs-Array x)))
+      ∙ ap (λ n. codes "[" ++ n) h ∙ sym (told c (ty.Array x) _ (ty.outs-Array x)))
     where
       of_name : {xs ys : List ℕ} → xs ≡ ys → codes "L" ++ xs ++ codes ";" ≡ codes "L" ++ ys ++ codes ";"
       of_name e = ap (λ n. codes "L" ++ n ++ codes ";") e

@@ -47,7 +47,13 @@ pub fn first_difference(
     if !calls_found(old, new, map, &others, strict) {
         return Ok(Some(Difference::Calls));
     }
-    let sides = Sides { alloc, map, others: &others, world: new.world, strict };
+    let sides = Sides {
+        alloc,
+        map,
+        others: &others,
+        world: new.world,
+        strict,
+    };
     match members_alike(&sides, old, new) {
         Err(difference) => Ok(Some(difference)),
         Ok(()) => Ok(None),

@@ -31,7 +31,11 @@ pub(crate) fn body_at(
     let Some(moved) = gone(&sides.map.methods, method) else {
         return Err(Difference::Tables);
     };
-    let alike = body_alike(sides, body_of(old, owner, method), body_of(new, class, moved));
+    let alike = body_alike(
+        sides,
+        body_of(old, owner, method),
+        body_of(new, class, moved),
+    );
     alike.map_err(Difference::Tree)
 }
 

@@ -61,7 +61,13 @@ pub(crate) fn others_called(
     let mut others = none_for(alloc, old.world.methods.len())?;
     for method in 0..old.world.methods.len() as u32 {
         loop {
-            let sides = Sides { alloc, map, others: &others, world: new.world, strict };
+            let sides = Sides {
+                alloc,
+                map,
+                others: &others,
+                world: new.world,
+                strict,
+            };
             match other_called(&sides, old, new, method) {
                 Some((from, to)) => {
                     if !take(&mut others, from, to) {

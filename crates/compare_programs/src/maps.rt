@@ -31,7 +31,8 @@ fn same_package(old: Named<'_>, new: Named<'_>, a: &[Name], b: &[Name]) -> bool 
 }
 
 fn same_type(old: Named<'_>, new: Named<'_>, a: &TypeInfo, b: &TypeInfo) -> bool {
-    same_name(old, new, a.name, b.name) && same_package(old, new, a.package.as_slice(), b.package.as_slice())
+    same_name(old, new, a.name, b.name)
+        && same_package(old, new, a.package.as_slice(), b.package.as_slice())
 }
 
 // Numbers of which so many are to be mapped, and among so many.
@@ -72,8 +73,16 @@ pub fn map_by_names(alloc: Global, old: Named<'_>, new: Named<'_>) -> Result<Map
         };
         if same_type(old, new, before, info) {
             set(&mut types, from as u32, number as u32);
-            set_all(&mut methods, before.methods.as_slice(), info.methods.as_slice());
-            set_all(&mut fields, before.fields.as_slice(), info.fields.as_slice());
+            set_all(
+                &mut methods,
+                before.methods.as_slice(),
+                info.methods.as_slice(),
+            );
+            set_all(
+                &mut fields,
+                before.fields.as_slice(),
+                info.fields.as_slice(),
+            );
             from += 1;
         }
     }

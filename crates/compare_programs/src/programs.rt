@@ -46,7 +46,11 @@ pub struct Program {
 pub enum Compared {
     Alike,
     Differs(Difference),
-    At { file: usize, place: Place, call: bool },
+    At {
+        file: usize,
+        place: Place,
+        call: bool,
+    },
 }
 
 fn are_small(texts: &[Items<u8>]) -> bool
@@ -58,7 +62,11 @@ fn are_small(texts: &[Items<u8>]) -> bool
     }
 }
 
-fn names_of(alloc: Global, files: &[String], libraries: &[String]) -> Result<Items<String>, NoMemory> {
+fn names_of(
+    alloc: Global,
+    files: &[String],
+    libraries: &[String],
+) -> Result<Items<String>, NoMemory> {
     let mut names = Items::new(alloc);
     for name in files.iter().chain(libraries) {
         names.push(name.try_clone()?)?;
@@ -124,7 +132,11 @@ fn told(program: &Program, difference: Difference) -> Compared {
 }
 
 /// Compares the programs of files.
-pub fn compared<F: Files>(alloc: Global, asked: &Asked<'_>, files: &mut F) -> Result<Compared, Stop> {
+pub fn compared<F: Files>(
+    alloc: Global,
+    asked: &Asked<'_>,
+    files: &mut F,
+) -> Result<Compared, Stop> {
     let Some(old) = program_of(alloc, asked.old, asked.libraries, files) else {
         return Err(Stop::Old);
     };

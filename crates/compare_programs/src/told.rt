@@ -38,7 +38,12 @@ fn put<K: Sink>(out: &mut K, text: &str, status: u8) -> u8 {
 }
 
 /// Puts an answer, and gives the exit status.
-pub fn tell<K: Sink>(alloc: Global, asked: &Asked<'_>, answer: Result<Compared, Stop>, out: &mut K) -> u8 {
+pub fn tell<K: Sink>(
+    alloc: Global,
+    asked: &Asked<'_>,
+    answer: Result<Compared, Stop>,
+    out: &mut K,
+) -> u8 {
     match answer {
         Ok(Compared::Alike) => put(out, "alike\n", 0),
         Ok(Compared::Differs(difference)) => put(out, word(difference), 1),
