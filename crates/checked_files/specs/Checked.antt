@@ -14,9 +14,9 @@ use Rattle.checker.specs.declared.check.CheckedProgram.{CheckedProgram}
 use Rattle.checker.specs.declared.fault.CheckFault.{CheckFault}
 use Rattle.checked_files.specs.Judged.{AreDeclaredAs, AreJudged}
 use Rattle.checked_files.specs.declared.declarations.Declared.{Declared}
-use Rattle.checked_files.specs.declared.checked.CheckedFiles.{CheckedFiles}
-use Rattle.checked_files.specs.declared.checked.FilesFault.{FilesFault}
-use Rattle.checked_files.specs.declared.checked.FilesFault.TheVariants as files
+use Rattle.checked_files.specs.declared.texts.CheckedFiles.{CheckedFiles}
+use Rattle.checked_files.specs.declared.texts.FilesFault.{FilesFault}
+use Rattle.checked_files.specs.declared.texts.FilesFault.TheVariants as files
 
 -- the texts have these trees and names
 pub record AreRead (texts : List (List ℕ)) (units : List SourceUnit) (names : List (List ℕ)) : Type 0 where
