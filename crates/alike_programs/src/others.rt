@@ -1,7 +1,8 @@
-//! The methods of the new program that are called in the stead of others: as far as bodies are alike but for them.
+//! Methods of the new program that are called in the stead of others: those without which bodies would be alike.
 
+ghost use Rattle.std.specs.Prelude.{◌<◌, ◌^◌, length};
 ghost use Rattle.running_code.specs.Running.{IsReady};
-ghost use Rattle.class_world.specs.Sound.{IsSound};
+ghost use Rattle.alike_trees.specs.Compared as compared;
 
 use crate::difference::Difference;
 use crate::members::body_at;
@@ -21,16 +22,17 @@ fn none_for(alloc: Global, count: usize) -> Result<Items<Option<u32>>, NoMemory>
 
 // Takes a method for one that has none yet.
 fn take(others: &mut Items<Option<u32>>, old: u32, new: u32) -> bool {
-    match others.get(old as usize) {
-        Some(None) => {
-            *others.at_mut(old as usize) = Some(new);
-            true
-        }
+    let free = match others.get(old as usize) {
+        Some(None) => true,
         _ => false,
+    };
+    if free {
+        *others.at_mut(old as usize) = Some(new);
     }
+    free
 }
 
-// The method that would make the body of this one alike, where another one is called.
+// The method that is called in the stead of another one where the body of a method differs in this first.
 fn other_called(
     sides: &Sides<'_>,
     old: &Running<'_>,
@@ -39,7 +41,7 @@ fn other_called(
 ) -> Option<(u32, u32)>
     requires old { IsReady old.now }
     requires new { IsReady new.now }
-    requires sound { IsSound sides.now.world.now }
+    requires sides { compared.IsReady sides.now }
 {
     match body_at(sides, old, new, method) {
         Err(Difference::Tree(Unlike::Call { old, new, .. })) => Some((old, new)),
@@ -47,7 +49,34 @@ fn other_called(
     }
 }
 
-/// For each method another one that is called in its stead, where one is. Takes a walk over each body, and one more for each pair of methods.
+// Takes a method in whose stead another one is called, where the body of this method differs in that first.
+fn take_from(
+    alloc: Global,
+    old: &Running<'_>,
+    new: &Running<'_>,
+    map: &Map,
+    strict: bool,
+    others: &mut Items<Option<u32>>,
+    method: u32,
+) -> bool
+    requires old { IsReady old.now }
+    requires new { IsReady new.now }
+    requires few { length new.now.world.now.types < 2 ^ 32 }
+{
+    let sides = Sides {
+        alloc,
+        map,
+        others,
+        world: new.world,
+        strict,
+    };
+    match other_called(&sides, old, new, method) {
+        Some((from, to)) => take(others, from, to),
+        None => false,
+    }
+}
+
+/// For each method of the old program another one of the new, where that is called in its stead. Takes a walk over each body, and one more for each method that has another.
 pub(crate) fn others_called(
     alloc: Global,
     old: &Running<'_>,
@@ -57,24 +86,17 @@ pub(crate) fn others_called(
 ) -> Result<Items<Option<u32>>, NoMemory>
     requires old { IsReady old.now }
     requires new { IsReady new.now }
+    requires few { length new.now.world.now.types < 2 ^ 32 }
 {
     let mut others = none_for(alloc, old.world.methods.len())?;
-    for method in 0..old.world.methods.len() as u32 {
-        loop {
-            let sides = Sides {
-                alloc,
-                map,
-                others: &others,
-                world: new.world,
-                strict,
-            };
-            match other_called(&sides, old, new, method) {
-                Some((from, to)) => {
-                    if !take(&mut others, from, to) {
-                        break;
-                    }
-                }
-                None => break,
+    let Ok(count) = u32::try_from(old.world.methods.len()) else {
+        return Ok(others);
+    };
+    for method in 0..count {
+        // No more methods than there are can be taken.
+        for _ in 0..count {
+            if !take_from(alloc, old, new, map, strict, &mut others, method) {
+                break;
             }
         }
     }

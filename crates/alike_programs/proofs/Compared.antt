@@ -1,0 +1,88 @@
+-- From what was compared to how the programs run.
+use Rattle.std.proofs.Common.{◌≡◌, ℕ, ◌+◌, ◌<◌, ◌≤◌, Bool, List, [], ◌∷◌, ◌++◌, flat_map, length, Option, Some, None, refl, sym, ap, ◌∙◌, subst, arith}
+use Rattle.std.specs.Prelude.{◌==◌, slice_get, option_and_then, if◌then◌else◌}
+use Rattle.std.specs.List.{find}
+use Rattle.std.specs.Option.{option_map}
+use Rattle.std.proofs.lemmas.Option.{slice_get_past}
+use Rattle.class_world.specs.declared.world.MethodInfo.{MethodInfo}
+use Rattle.java_core.specs.Plain as e
+use Rattle.core_meaning.specs.Code.{Code, classes_of, class_at, class_fields}
+use Rattle.running_code.specs.declared.running.Running.{Running}
+use Rattle.running_code.specs.Running.{IsCode}
+use Rattle.program_maps.specs.declared.numbers.Numbers.{Numbers}
+use Rattle.program_maps.specs.declared.numbers.Map.{Map}
+use Rattle.program_maps.specs.Ways.{IsOneToOne, goes_to, or_behind, ways}
+use Rattle.program_maps.specs.Pairs.{Pair}
+use Rattle.program_maps.specs.Trees.{FieldsAlike}
+use Rattle.program_maps.specs.Correspond.{Correspond, KeepsBuiltIn, TablesAlike, method_owner}
+use Rattle.alike_laws.proofs.Runs.{corresponding_alike}
+use Rattle.alike_order.specs.Order.{KeepsOrder, KeepsOrderTold}
+use Rattle.alike_lookups.specs.Lookups.{CallsFoundTold}
+use Rattle.alike_tables.specs.Tables.{TablesTold}
+use Rattle.alike_trees.specs.declared.sides.Sides.{Sides}
+use Rattle.alike_trees.specs.Compared.{pair}
+use Rattle.alike_programs.specs.Known.{AreKnown, AreKnownIn}
+use Rattle.alike_programs.specs.Alike.{AlikeTold, AllFieldsTold, AreBodiesBelow, AreFieldsBelow, KnowsClasses}
+
+-- ---- classes that are not there
+
+none_of : (n k : ℕ) (xs : List e.Class) → AreKnown n xs → n ≤ k → find (λ (x : e.Class). x.number == k) xs ≡ None
+none_of n k [] h low = refl
+none_of n k (x ∷ xs) h low = at (x.number == k) refl (none_of n k xs h.1 low)
+  where
+    at : (b : Bool) → (x.number == k) ≡ b → find (λ (x : e.Class). x.number == k) xs ≡ None
+        → (if b then Some x else find (λ (x : e.Class). x.number == k) xs) ≡ None
+    at b is rest = grind (arith, is, rest, h.0, low)
+
+known_more : (n : ℕ) (xs ys : List e.Class) → AreKnown n xs → AreKnown n ys → AreKnown n (xs ++ ys)
+known_more n [] ys h k = k
+known_more n (x ∷ xs) ys h k = (h.0, known_more n xs ys h.1 k)
+
+all_known : (n : ℕ) (fs : List e.File) → AreKnownIn n fs → AreKnown n (classes_of fs)
+all_known n [] h = tt
+all_known n (f ∷ fs) h = known_more n f.classes (classes_of fs) h.0 (all_known n fs h.1)
+
+class_missing : (g : Running) (c : Code) → IsCode g c → KnowsClasses g → (k : ℕ) → length g.world.now.types ≤ k → class_at c k ≡ None
+class_missing g c is known k low = ap (λ (x : e.Program). find (λ (y : e.Class). y.number == k) (classes_of x.files)) is.core ∙ none_of _ k _ (all_known _ _ known) low
+
+-- a number of no type goes to one of no type
+goes_past : (x : Numbers) (n m : ℕ) → length x.to ≡ n → length x.back ≡ m → (k : ℕ) → n ≤ k → m ≤ goes_to x k
+goes_past x n m to back k low =
+    let far = ap (or_behind (length x.back + k)) (slice_get_past x.to k (omega (arith, to, low))) in omega (arith, far, back)
+
+-- ---- the two programs
+
+module _ (g g' : Running) (x : Sides) (world : x.world.now ≡ g'.world.now) (tables : TablesTold g g' x.map.now) (known : KnowsClasses g) (known' : KnowsClasses g')
+    (order : KeepsOrder x.map.now.types g.world.now g'.world.now) (ordered : KeepsOrderTold x.map.now.types g.world.now g'.world.now)
+    (calls : CallsFoundTold g g' x.map.now x.others.now x.strict) (bodies : AreBodiesBelow x g g' (length g.world.now.methods))
+    (fields : AreFieldsBelow x g g' (length g.world.now.types)) (all : AllFieldsTold x g g') where
+  class_fields_alike : (c c' : Code) → IsCode g c → IsCode g' c' → (k : ℕ)
+      → FieldsAlike (pair x) (class_fields (class_at c k)) (class_fields (class_at c' (goes_to x.map.now.types k)))
+  class_fields_alike c c' is is' k = elim (below_or k (length g.world.now.types)) [
+    | inl low ↦ fields k low c c' is is'
+    | inr high ↦ rw (class_missing g c is known k high, class_missing g' c' is' known' _ (goes_past x.map.now.types _ _ order.to order.back k high)) tt
+  ]
+
+  pub alike_told : AlikeTold g g' (ways x.map.now) x.strict
+  alike_told c c' is is' =
+      let told = tables (pair x) refl c c' is is' in
+      corresponding_alike (pair x) c c' (record {
+        world = world ∙ sym is'.world;
+        told = is'.told;
+        types = told.2;
+        fields = told.3;
+        built_in = told.1;
+        tables = told.0;
+        order = ordered (pair x) c c' refl is.world is'.world is.told is'.told;
+        calls = calls c c' is is' (pair x) refl refl refl;
+        bodies = λ m k owner. bodies m (method_low c is m k owner) c c' is is' k owner;
+        class_fields = class_fields_alike c c' is is';
+        all_fields = all c c' is is';
+      })
+    where
+      method_low : (c : Code) → IsCode g c → (m k : ℕ) → method_owner c m ≡ Some k → m < length g.world.now.methods
+      method_low c is m k owner = subst (λ w. m < length w.methods) is.world (low (slice_get c.world.methods m) refl owner)
+        where
+          low : (o : Option MethodInfo) → slice_get c.world.methods m ≡ o → option_map (λ (i : MethodInfo). i.owner) o ≡ Some k → m < length c.world.methods
+          low None e w = absurd (cc w)
+          low (Some i) e w = slice_get_within c.world.methods m (Some i) e
