@@ -1,24 +1,22 @@
 -- From what was compared to how the programs run.
-use Rattle.std.proofs.Common.{◌≡◌, ℕ, ◌+◌, ◌<◌, ◌≤◌, Bool, List, [], ◌∷◌, ◌++◌, flat_map, length, Option, Some, None, refl, sym, ap, ◌∙◌, subst, arith}
+use Rattle.std.proofs.Common.{◌≡◌, ℕ, zero, suc, ◌+◌, ◌<◌, ◌≤◌, ◌⊎◌, inl, inr, Bool, List, [], ◌∷◌, ◌++◌, flat_map, length, Option, Some, None, refl, sym, ap, ◌∙◌, subst, arith}
 use Rattle.std.specs.Prelude.{◌==◌, slice_get, option_and_then, if◌then◌else◌}
 use Rattle.std.specs.List.{find}
 use Rattle.std.specs.Option.{option_map}
-use Rattle.std.proofs.lemmas.Option.{slice_get_past}
+use Rattle.std.proofs.lemmas.Option.{slice_get_past, slice_get_within}
 use Rattle.class_world.specs.declared.world.MethodInfo.{MethodInfo}
 use Rattle.java_core.specs.Plain as e
 use Rattle.core_meaning.specs.Code.{Code, classes_of, class_at, class_fields}
 use Rattle.running_code.specs.declared.running.Running.{Running}
 use Rattle.running_code.specs.Running.{IsCode}
 use Rattle.program_maps.specs.declared.numbers.Numbers.{Numbers}
-use Rattle.program_maps.specs.declared.numbers.Map.{Map}
-use Rattle.program_maps.specs.Ways.{IsOneToOne, goes_to, or_behind, ways}
-use Rattle.program_maps.specs.Pairs.{Pair}
+use Rattle.program_maps.specs.Ways.{goes_to, or_behind, ways}
 use Rattle.program_maps.specs.Trees.{FieldsAlike}
-use Rattle.program_maps.specs.Correspond.{Correspond, KeepsBuiltIn, TablesAlike, method_owner}
+use Rattle.program_maps.specs.Correspond.{method_owner}
 use Rattle.alike_laws.proofs.Runs.{corresponding_alike}
 use Rattle.alike_order.specs.Order.{KeepsOrder, KeepsOrderTold}
 use Rattle.alike_lookups.specs.Lookups.{CallsFoundTold}
-use Rattle.alike_tables.specs.Tables.{TablesTold}
+use Rattle.alike_tables.specs.Tables.{AreAlikeTold}
 use Rattle.alike_trees.specs.declared.sides.Sides.{Sides}
 use Rattle.alike_trees.specs.Compared.{pair}
 use Rattle.alike_programs.specs.Known.{AreKnown, AreKnownIn}
@@ -45,6 +43,15 @@ all_known n (f ∷ fs) h = known_more n f.classes (classes_of fs) h.0 (all_known
 class_missing : (g : Running) (c : Code) → IsCode g c → KnowsClasses g → (k : ℕ) → length g.world.now.types ≤ k → class_at c k ≡ None
 class_missing g c is known k low = ap (λ (x : e.Program). find (λ (y : e.Class). y.number == k) (classes_of x.files)) is.core ∙ none_of _ k _ (all_known _ _ known) low
 
+low_or_high : (k n : ℕ) → (k < n) ⊎ (n ≤ k)
+low_or_high k zero = inr (omega arith)
+low_or_high zero (suc n) = inl (omega arith)
+low_or_high (suc k) (suc n) = more (low_or_high k n)
+  where
+    more : (k < n) ⊎ (n ≤ k) → (suc k < suc n) ⊎ (suc n ≤ suc k)
+    more (inl h) = inl (omega (arith, h))
+    more (inr h) = inr (omega (arith, h))
+
 -- a number of no type goes to one of no type
 goes_past : (x : Numbers) (n m : ℕ) → length x.to ≡ n → length x.back ≡ m → (k : ℕ) → n ≤ k → m ≤ goes_to x k
 goes_past x n m to back k low =
@@ -52,13 +59,13 @@ goes_past x n m to back k low =
 
 -- ---- the two programs
 
-module _ (g g' : Running) (x : Sides) (world : x.world.now ≡ g'.world.now) (tables : TablesTold g g' x.map.now) (known : KnowsClasses g) (known' : KnowsClasses g')
+module _ (g g' : Running) (x : Sides) (world : x.world.now ≡ g'.world.now) (tables : AreAlikeTold g g' x.map.now) (known : KnowsClasses g) (known' : KnowsClasses g')
     (order : KeepsOrder x.map.now.types g.world.now g'.world.now) (ordered : KeepsOrderTold x.map.now.types g.world.now g'.world.now)
     (calls : CallsFoundTold g g' x.map.now x.others.now x.strict) (bodies : AreBodiesBelow x g g' (length g.world.now.methods))
     (fields : AreFieldsBelow x g g' (length g.world.now.types)) (all : AllFieldsTold x g g') where
   class_fields_alike : (c c' : Code) → IsCode g c → IsCode g' c' → (k : ℕ)
       → FieldsAlike (pair x) (class_fields (class_at c k)) (class_fields (class_at c' (goes_to x.map.now.types k)))
-  class_fields_alike c c' is is' k = elim (below_or k (length g.world.now.types)) [
+  class_fields_alike c c' is is' k = elim (low_or_high k (length g.world.now.types)) [
     | inl low ↦ fields k low c c' is is'
     | inr high ↦ rw (class_missing g c is known k high, class_missing g' c' is' known' _ (goes_past x.map.now.types _ _ order.to order.back k high)) tt
   ]
@@ -69,10 +76,10 @@ module _ (g g' : Running) (x : Sides) (world : x.world.now ≡ g'.world.now) (ta
       corresponding_alike (pair x) c c' (record {
         world = world ∙ sym is'.world;
         told = is'.told;
-        types = told.2;
-        fields = told.3;
-        built_in = told.1;
-        tables = told.0;
+        types = told.types;
+        fields = told.fields;
+        built_in = told.built_in;
+        tables = told.tables;
         order = ordered (pair x) c c' refl is.world is'.world is.told is'.told;
         calls = calls c c' is is' (pair x) refl refl refl;
         bodies = λ m k owner. bodies m (method_low c is m k owner) c c' is is' k owner;
