@@ -92,4 +92,4 @@ module _ (g g' : Running) (x : Sides) (world : x.world.now ≡ g'.world.now) (ta
         where
           low : (o : Option MethodInfo) → slice_get c.world.methods m ≡ o → option_map (λ (i : MethodInfo). i.owner) o ≡ Some k → m < length c.world.methods
           low None e w = absurd (cc w)
-          low (Some i) e w = slice_get_within c.world.methods m (Some i) e
+          low (Some i) e w = slice_get_within c.world.methods m i e

@@ -1,0 +1,6 @@
+mod Lists
+mod Loops
+mod Objects
+mod Firsts
+mod Behind
+mod Told
