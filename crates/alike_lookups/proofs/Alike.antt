@@ -30,14 +30,14 @@ fixed_alike x m n was is same k single single_new o p h i =
     let second : p ≡ Some n = fixed_found n (to_type x k) p is i in
     inl (second ∙ ap (λ j. Some j) same ∙ sym (ap (option_map (to_method x)) first))
 
-goes_behind : (x : Numbers) (k : ℕ) → length x.to ≤ k → goes_to x k ≡ length x.back + k
+pub goes_behind : (x : Numbers) (k : ℕ) → length x.to ≤ k → goes_to x k ≡ length x.back + k
 goes_behind x k past = ap (or_behind (length x.back + k)) (slice_get_past x.to k past)
 
 none_led : (strict : Bool) (f : ℕ → ℕ) (o p : Option ℕ) → o ≡ None → p ≡ None → LedBy strict f o p
 none_led strict f o p first second = inl (second ∙ sym (ap (option_map f) first))
 
 -- other methods find alike where they do on objects of each class
-pub free_alike : (x : Sides) (m n : ℕ) → IsWhole x → (IsFixed x.old m → ⊥) → (IsFixed x.new n → ⊥) → ((k : ℕ) → k < length x.map.types.to → FindsOn x m n k) → FindsAlike x m n
+pub free_alike : (x : Sides) (m n : ℕ) → IsWhole x.old x.new x.map → (IsFixed x.old m → ⊥) → (IsFixed x.new n → ⊥) → ((k : ℕ) → k < length x.map.types.to → FindsOn x m n k) → FindsAlike x m n
 free_alike x m n whole free free_new each k single single_new o p h i = elim (cases_lt k (length x.map.types.to)) [
   | inl low ↦ each k low single single_new o p h i
   | inr past ↦
@@ -49,7 +49,7 @@ free_alike x m n whole free free_new each k single single_new o p h i = elim (ca
 ]
 
 -- numbers of no method find nothing
-pub past_alike : (x : Sides) (m : ℕ) → IsWhole x → length x.map.methods.to ≤ m → FindsAlike x m (to_method x m)
+pub past_alike : (x : Sides) (m : ℕ) → IsWhole x.old x.new x.map → length x.map.methods.to ≤ m → FindsAlike x m (to_method x m)
 past_alike x m whole past k single single_new o p h i =
     let behind = goes_behind x.map.methods m past in
     let known = whole.methods in
@@ -59,7 +59,7 @@ past_alike x m whole past k single single_new o p h i =
     none_led x.strict (to_method x) o p (none_found m k o (past_free m over) (inr over) h)
     (none_found (to_method x m) (to_type x k) p (past_free (to_method x m) over_new) (inr over_new) i)
 
-every_alike : (x : Sides) → IsWhole x → AllFindAlike x → (m : ℕ) → FindsAlike x m (to_method x m)
+every_alike : (x : Sides) → IsWhole x.old x.new x.map → AllFindAlike x → (m : ℕ) → FindsAlike x m (to_method x m)
 every_alike x whole all m = elim (cases_lt m (length x.map.methods.to)) [ inl low ↦ all m low | inr past ↦ past_alike x m whole past ]
 
 -- what is found of calls, for a map, other methods and strictness by themselves
@@ -67,7 +67,7 @@ abbrev Found : (c d : Code) → Ways → List (Option ℕ) → Bool → Type 0
 Found c d f others strict =
     (m n : ℕ) → (n ≡ f.methods m) ⊎ (slice_get others m ≡ Some (Some n)) → (k : ℕ) → LedBy strict f.methods (c.found m k) (d.found n (f.types k))
 
-pub calls_told : (g h : Running) (map : Map) (others : List (Option ℕ)) (strict : Bool) → IsWhole (sides g h map strict) → AllFindAlike (sides g h map strict) → OthersFindAlike (sides g h map strict) others
+pub calls_told : (g h : Running) (map : Map) (others : List (Option ℕ)) (strict : Bool) → IsWhole g.world.now h.world.now map → AllFindAlike (sides g h map strict) → OthersFindAlike (sides g h map strict) others
     → CallsFoundTold g h map others strict
 calls_told g h map others strict whole all rest c d code code_new p same_ways same_others same_strict =
     subst (λ f. Found c d f p.others p.strict) (sym same_ways) (subst (λ l. Found c d (ways map) l p.strict) (sym same_others) (subst (Found c d (ways map) others) (sym same_strict) found))

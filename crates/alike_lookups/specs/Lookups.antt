@@ -49,12 +49,12 @@ abbrev pub FindsAlike : Sides → (m n : ℕ) → Type 0
 FindsAlike x m n = (k : ℕ) → FindsOn x m n k
 
 -- the map has a place for each type and method of both worlds, and leads each type back
-pub record IsWhole (x : Sides) : Type 0 where
-  pub types : length x.map.types.to ≡ length x.old.types
-  pub types_back : length x.map.types.back ≡ length x.new.types
-  pub methods : length x.map.methods.to ≡ length x.old.methods
-  pub methods_back : length x.map.methods.back ≡ length x.new.methods
-  pub one : LeadsBack x.map.types
+pub record IsWhole (old new : World) (map : Map) : Type 0 where
+  pub types : length map.types.to ≡ length old.types
+  pub types_back : length map.types.back ≡ length new.types
+  pub methods : length map.methods.to ≡ length old.methods
+  pub methods_back : length map.methods.back ≡ length new.methods
+  pub one : LeadsBack map.types
 
 -- each method finds as the one that it goes to does
 abbrev pub AllFindAlike : Sides → Type 0

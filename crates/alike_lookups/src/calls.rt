@@ -2,18 +2,24 @@
 
 ghost use Rattle.std.specs.Prelude.{◌≡◌, ℕ, ◌<◌, IsTrue, length};
 ghost use Rattle.running_code.specs.Running.{IsReady};
-ghost use Rattle.alike_lookups.specs.Lookups.{AllFindAlike, CallsFoundTold, IsWhole, OthersFindAlike, sides};
+ghost use Rattle.std.specs.List.{Contains};
+ghost use Rattle.program_maps.specs.Ways.{goes_to};
+ghost use Rattle.alike_lookups.specs.Families.{AreUpsKept, FamilyFindsAlike};
+ghost use Rattle.alike_lookups.specs.Lookups.{AllFindAlike, CallsFoundTold, FindsAlike, IsWhole, OthersFindAlike, sides};
 
+use crate::classes::are_ups_kept;
+use crate::families::{is_family_alike, is_of_same_family};
 use crate::looks::finds_alike;
+use crate::places::image;
+use crate::plain::is_first;
 use java_tree::Items;
-use program_maps::{Map, is_one_to_one};
+use program_maps::{Map, goes, is_one_to_one};
 use running_code::Running;
 
 /// Whether the map has a place for each type and method of both programs, and leads each type back.
-fn is_whole(old: &Running<'_>, new: &Running<'_>, map: &Map, strict: bool) -> bool
-    ensures { IsTrue result → IsWhole (sides old.now new.now map.now strict) }
+fn is_whole(old: &Running<'_>, new: &Running<'_>, map: &Map) -> bool
+    ensures { IsTrue result → IsWhole old.now.world.now new.now.world.now map.now }
 {
-    let _ = strict;
     map.types.to.len() == old.world.types.len()
         && map.types.back.len() == new.world.types.len()
         && map.methods.to.len() == old.world.methods.len()
@@ -21,22 +27,85 @@ fn is_whole(old: &Running<'_>, new: &Running<'_>, map: &Map, strict: bool) -> bo
         && is_one_to_one(&map.types)
 }
 
-fn all_find_alike(old: &Running<'_>, new: &Running<'_>, map: &Map, strict: bool) -> bool
+/// Whether each method of a list finds as the one that it goes to does: two look-ups for each of them and each class.
+fn each_finds_alike(
+    old: &Running<'_>,
+    new: &Running<'_>,
+    map: &Map,
+    strict: bool,
+    methods: &[u32],
+) -> bool
     requires old { IsReady old.now }
     requires new { IsReady new.now }
-    requires whole { IsWhole (sides old.now new.now map.now strict) }
-    ensures { IsTrue result → AllFindAlike (sides old.now new.now map.now strict) }
+    requires whole { IsWhole old.now.world.now new.now.world.now map.now }
+    ensures { IsTrue result → (j : ℕ) → Contains methods.now j → FindsAlike (sides old.now new.now map.now strict) j (goes_to map.now.methods j) }
 {
-    let Ok(count) = u32::try_from(map.methods.to.len()) else {
-        return false;
-    };
-    for method in 0..count {
-        let to = map.methods.to.as_slice()[method as usize];
-        if !finds_alike(old, new, map, strict, method, to) {
+    for method in methods {
+        let Some(to) = image(&map.methods, *method) else {
+            return false;
+        };
+        if !finds_alike(old, new, map, strict, *method, to) {
             return false;
         }
     }
     true
+}
+
+/// Whether each method of a family finds as the one that it goes to does. Families that are not found as a whole are looked at class by class.
+fn family_finds_alike(
+    old: &Running<'_>,
+    new: &Running<'_>,
+    map: &Map,
+    strict: bool,
+    method: u32,
+) -> bool
+    requires old { IsReady old.now }
+    requires new { IsReady new.now }
+    requires whole { IsWhole old.now.world.now new.now.world.now map.now }
+    requires ups { AreUpsKept (sides old.now new.now map.now strict) }
+    requires method { method < length old.now.world.now.methods }
+    ensures { IsTrue result → FamilyFindsAlike (sides old.now new.now map.now strict) method }
+{
+    is_family_alike(old, new, map, method)
+        || each_finds_alike(old, new, map, strict, old.members.family(method))
+}
+
+/// Each family is looked at once, at its first method.
+fn all_find_alike(old: &Running<'_>, new: &Running<'_>, map: &Map, strict: bool) -> bool
+    requires old { IsReady old.now }
+    requires new { IsReady new.now }
+    requires whole { IsWhole old.now.world.now new.now.world.now map.now }
+    requires ups { AreUpsKept (sides old.now new.now map.now strict) }
+    ensures { IsTrue result → AllFindAlike (sides old.now new.now map.now strict) }
+{
+    let Ok(count) = u32::try_from(old.world.methods.len()) else {
+        return false;
+    };
+    for method in 0..count {
+        if is_first(old, method) && !family_finds_alike(old, new, map, strict, method) {
+            return false;
+        }
+    }
+    true
+}
+
+/// Whether another method of the new program finds what a method finds in the old one, where the one that it goes to does.
+fn other_finds_alike(
+    old: &Running<'_>,
+    new: &Running<'_>,
+    map: &Map,
+    strict: bool,
+    method: u32,
+    other: u32,
+) -> bool
+    requires old { IsReady old.now }
+    requires new { IsReady new.now }
+    requires whole { IsWhole old.now.world.now new.now.world.now map.now }
+    ensures { IsTrue result → AllFindAlike (sides old.now new.now map.now strict) → FindsAlike (sides old.now new.now map.now strict) method other }
+{
+    goes(&map.methods, method, other)
+        || is_of_same_family(new, map, method, other)
+        || finds_alike(old, new, map, strict, method, other)
 }
 
 fn others_find_alike(
@@ -48,15 +117,15 @@ fn others_find_alike(
 ) -> bool
     requires old { IsReady old.now }
     requires new { IsReady new.now }
-    requires whole { IsWhole (sides old.now new.now map.now strict) }
-    ensures { IsTrue result → OthersFindAlike (sides old.now new.now map.now strict) others.now }
+    requires whole { IsWhole old.now.world.now new.now.world.now map.now }
+    ensures { IsTrue result → AllFindAlike (sides old.now new.now map.now strict) → OthersFindAlike (sides old.now new.now map.now strict) others.now }
 {
     let Ok(count) = u32::try_from(others.len()) else {
         return false;
     };
     for method in 0..count {
         if let Some(other) = others[method as usize] {
-            if !finds_alike(old, new, map, strict, method, other) {
+            if !other_finds_alike(old, new, map, strict, method, other) {
                 return false;
             }
         }
@@ -76,7 +145,8 @@ pub fn calls_found(
     requires new { IsReady new.now }
     ensures { IsTrue result → CallsFoundTold old.now new.now map.now others.now strict }
 {
-    is_whole(old, new, map, strict)
+    is_whole(old, new, map)
+        && are_ups_kept(old.world, new.world, &map.types)
         && all_find_alike(old, new, map, strict)
         && others_find_alike(old, new, map, others.as_slice(), strict)
 }

@@ -2,6 +2,10 @@
 #![tactic(auto)]
 
 mod calls;
+mod classes;
+mod families;
 mod looks;
+mod places;
+mod plain;
 
 pub use calls::calls_found;

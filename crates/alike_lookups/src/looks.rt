@@ -6,6 +6,7 @@ ghost use Rattle.program_maps.specs.Ways.{goes_to};
 ghost use Rattle.running_code.specs.Running.{IsReady};
 ghost use Rattle.alike_lookups.specs.Lookups.{FindsAlike, FindsOn, IsFixedBy, IsWhole, LedBy, sides};
 
+use crate::places::image;
 use class_world::{MethodInfo, World};
 use java_tree::tree::Mod;
 use program_maps::{Map, goes};
@@ -52,10 +53,11 @@ fn finds_on(
 ) -> bool
     requires old { IsReady old.now }
     requires new { IsReady new.now }
-    requires class { class < length map.now.types.to }
     ensures { IsTrue result → FindsOn (sides old.now new.now map.now strict) method other class }
 {
-    let to = map.types.to.as_slice()[class as usize];
+    let Some(to) = image(&map.types, class) else {
+        return false;
+    };
     let before = old.members.lookup(class, method);
     let after = new.members.lookup(to, other);
     is_led(map, strict, before, after)
@@ -96,7 +98,7 @@ pub(crate) fn finds_alike(
 ) -> bool
     requires old { IsReady old.now }
     requires new { IsReady new.now }
-    requires whole { IsWhole (sides old.now new.now map.now strict) }
+    requires whole { IsWhole old.now.world.now new.now.world.now map.now }
     ensures { IsTrue result → FindsAlike (sides old.now new.now map.now strict) method other }
 {
     if is_fixed(old.world, method) {
