@@ -26,8 +26,8 @@ looked_up x m n k before after was is led single single_new o p h i =
 -- fixed methods are themselves
 pub fixed_alike : (x : Sides) (m n : ℕ) → IsFixed x.old m → IsFixed x.new n → n ≡ to_method x m → FindsAlike x m n
 fixed_alike x m n was is same k single single_new o p h i =
-    let first : o ≡ Some m = fixed_found m k o was h in
-    let second : p ≡ Some n = fixed_found n (to_type x k) p is i in
+    let first : o ≡ Some m = fixed_found x.old m k o was h in
+    let second : p ≡ Some n = fixed_found x.new n (to_type x k) p is i in
     inl (second ∙ ap (λ j. Some j) same ∙ sym (ap (option_map (to_method x)) first))
 
 pub goes_behind : (x : Numbers) (k : ℕ) → length x.to ≤ k → goes_to x k ≡ length x.back + k
@@ -44,8 +44,8 @@ free_alike x m n whole free free_new each k single single_new o p h i = elim (ca
       let behind = goes_behind x.map.types k past in
       let known = whole.types in
       let known_new = whole.types_back in
-      none_led x.strict (to_method x) o p (none_found m k o free (inl (omega (arith, past, known))) h)
-      (none_found n (to_type x k) p free_new (inl (omega (arith, behind, known_new))) i)
+      none_led x.strict (to_method x) o p (none_found x.old m k o free (inl (omega (arith, past, known))) h)
+      (none_found x.new n (to_type x k) p free_new (inl (omega (arith, behind, known_new))) i)
 ]
 
 -- numbers of no method find nothing
@@ -56,10 +56,10 @@ past_alike x m whole past k single single_new o p h i =
     let known_new = whole.methods_back in
     let over : length x.old.methods ≤ m = omega (arith, past, known) in
     let over_new : length x.new.methods ≤ to_method x m = omega (arith, behind, known_new) in
-    none_led x.strict (to_method x) o p (none_found m k o (past_free m over) (inr over) h)
-    (none_found (to_method x m) (to_type x k) p (past_free (to_method x m) over_new) (inr over_new) i)
+    none_led x.strict (to_method x) o p (none_found x.old m k o (past_free x.old m over) (inr over) h)
+    (none_found x.new (to_method x m) (to_type x k) p (past_free x.new (to_method x m) over_new) (inr over_new) i)
 
-every_alike : (x : Sides) → IsWhole x.old x.new x.map → AllFindAlike x → (m : ℕ) → FindsAlike x m (to_method x m)
+pub every_alike : (x : Sides) → IsWhole x.old x.new x.map → AllFindAlike x → (m : ℕ) → FindsAlike x m (to_method x m)
 every_alike x whole all m = elim (cases_lt m (length x.map.methods.to)) [ inl low ↦ all m low | inr past ↦ past_alike x m whole past ]
 
 -- what is found of calls, for a map, other methods and strictness by themselves

@@ -6,13 +6,13 @@ use Rattle.class_world.specs.declared.world.World.{World}
 use Rattle.class_world.specs.Overriding as by
 use Rattle.class_world.specs.Overriding.{IsClass, OverridesAtOnce, Overriding, IsFamily, IsAnswer, IsFixed, IsFound, FoundIs}
 
-module _ {w : World} where
-  class_within : {c : ℕ} → IsClass w c → c < length w.types
-  class_within {c} is = slice_get_within w.types c is.0 is.1
+module _ (w : World) where
+  class_within : (c : ℕ) → IsClass w c → c < length w.types
+  class_within c is = slice_get_within w.types c is.0 is.1
 
   answer_class : {o m c k : ℕ} → IsAnswer w o m c k → c < length w.types
-  answer_class (by.here a least) = class_within a.0
-  answer_class (by.further none up rest) = class_within up.0
+  answer_class {c = c} (by.here a least) = class_within c a.0
+  answer_class {c = c} (by.further none up rest) = class_within c up.0
 
   at_once_within : {m k : ℕ} → OverridesAtOnce w m k → (m < length w.methods) × (k < length w.methods)
   at_once_within {m} {k} (by.declared takes are) = (slice_get_within w.methods m are.0.0 are.0.1.0, slice_get_within w.methods k are.1.0 are.1.1.0)
@@ -31,8 +31,8 @@ module _ {w : World} where
   answer_method {k = k} (by.here a least) = let own = a.1 in family_within a.2 (slice_get_within w.methods k own.0 own.1.0)
   answer_method (by.further none up rest) = answer_method rest
 
-  fixed_within : {m : ℕ} → IsFixed w m → m < length w.methods
-  fixed_within {m} f = slice_get_within w.methods m f.0 f.1
+  fixed_within : (m : ℕ) → IsFixed w m → m < length w.methods
+  fixed_within m f = slice_get_within w.methods m f.0 f.1
 
   -- a fixed method is itself
   pub fixed_found : (m k : ℕ) (o : Option ℕ) → IsFixed w m → FoundIs w m k o → o ≡ Some m
@@ -52,4 +52,4 @@ module _ {w : World} where
   none_found m k (Some j) free (inr past) h = let lt = answer_method (free_answer m k j free h) in absurd (omega (arith, lt, past))
 
   pub past_free : (m : ℕ) → length w.methods ≤ m → IsFixed w m → ⊥
-  past_free m past f = let lt = fixed_within f in omega (arith, lt, past)
+  past_free m past f = let lt = fixed_within m f in omega (arith, lt, past)

@@ -1,5 +1,5 @@
 -- Elements of a list, by their places.
-use Rattle.std.proofs.Common.{◌≡◌, ℕ, ◌<◌, ◌≤◌, List, Some, refl, sym, ap, ◌∙◌, subst, length, get_or, arith}
+use Rattle.std.proofs.Common.{◌≡◌, ℕ, ◌<◌, ◌≤◌, List, Some, true, nat_eq, refl, sym, ap, ◌∙◌, subst, length, get_or, arith}
 use Rattle.std.specs.Prelude.{slice_get}
 use Rattle.std.specs.List.{Contains}
 use Rattle.std.proofs.lemmas.Option.{slice_get_within, slice_get-get_or, get_or_from_slice_get}
@@ -17,3 +17,6 @@ each_in P xs i past each k has =
     let at = contains_at xs k has in
     let lt = slice_get_within xs at.0 k at.1 in
     subst P (get_or_from_slice_get xs at.0 k 0 at.1) (each at.0 (omega (arith, lt, past)))
+
+pub from_test : (a b : ℕ) → nat_eq a b ≡ true → a ≡ b
+from_test a b h = grind (arith, h)

@@ -1,6 +1,6 @@
 -- Superclasses, by the types that a class declares above it.
 use Rattle.std.proofs.Common.{◌≡◌, ℕ, ◌+◌, ◌<◌, ◌≤◌, false, List, Option, Some, None, inl, inr, refl, sym, ap, ◌∙◌, subst, length, arith}
-use Rattle.std.specs.Prelude.{slice_get}
+use Rattle.std.specs.Prelude.{slice_get, IfNone}
 use Rattle.std.specs.List.{Contains}
 use Rattle.std.proofs.lemmas.Bool.{cases_lt}
 use Rattle.std.proofs.lemmas.Option.{slice_get_within}
@@ -18,7 +18,7 @@ use Rattle.alike_lookups.proofs.Alike.{goes_behind}
 
 module _ (w : World) (c : ℕ) (info : TypeInfo) (at : slice_get w.types c ≡ Some info) (class : info.interface ≡ false) (ds : List JavaType) (same : ds ≡ info.supers) where
   pub among_up : (s : ℕ) → IsClassAmong w ds s → IsSuperclass w c s
-  among_up s (d, has, (args, shape), is) =
+  among_up s (d, has, ((args, shape), is)) =
       let place = contains_at ds d has in
       ((info, at, class), (args, (info, at, place.0, ap (λ l. slice_get l place.0) (sym same) ∙ place.1 ∙ ap (λ d. Some d) shape)), is)
 
@@ -26,7 +26,7 @@ module _ (w : World) (c : ℕ) (info : TypeInfo) (at : slice_get w.types c ≡ S
   up_among s (own, (args, (i, there, k, is)), above) =
       let one : i ≡ info = let e = there in cc (e, at) in
       let read : slice_get ds k ≡ Some (ty.Class s args) = ap (λ l. slice_get l k) same ∙ ap (λ (x : TypeInfo). slice_get x.supers k) (sym one) ∙ is in
-      (ty.Class s args, at_contains ds k (ty.Class s args) read, (args, refl), above)
+      (ty.Class s args, at_contains ds k (ty.Class s args) read, ((args, refl), above))
 
 pub no_interface_up : (w : World) (c s : ℕ) (info : TypeInfo) → slice_get w.types c ≡ Some info → (info.interface ≡ false → ⊥) → IsSuperclass w c s → ⊥
 no_interface_up w c s info at other (own, above, is) =
@@ -59,3 +59,18 @@ ups_kept x whole each k = elim (cases_lt k (length x.map.types.to)) [
       (λ s is. let class = is.0 in let lt = slice_get_within x.old.types k class.0 class.1 in omega (arith, lt, past, known))
       (λ t is. let class = is.0 in let lt = slice_get_within x.new.types (to_type x k) class.0 class.1 in omega (arith, lt, behind, known_new))
 ]
+
+-- of one more type no class comes, where none came of those before
+pub none_more : (P : JavaType → ℕ → Type 0) (ds : List JavaType) (i : ℕ) (d : JavaType) → ((j s : ℕ) (e : JavaType) → j < i → slice_get ds j ≡ Some e → P e s → ⊥) → slice_get ds i ≡ Some d
+    → ((s : ℕ) → P d s → ⊥) → (j s : ℕ) (e : JavaType) → j < i + 1 → slice_get ds j ≡ Some e → P e s → ⊥
+none_more P ds i d before at none j s e low there h = elim (cases_lt j i) [
+  | inl lt ↦ before j s e lt there h
+  | inr past ↦
+      let last : j ≡ i = omega (arith, low, past) in
+      let one : e ≡ d = let read = sym there ∙ ap (slice_get ds) last ∙ at in cc read in
+      none s (subst (λ e. P e s) one h)
+]
+
+pub none_weaker : {P Q : Type 0} (o : Option ℕ) → IfNone o P → (P → Q) → IfNone o Q
+none_weaker None h f = f h
+none_weaker (Some x) h f = tt

@@ -45,7 +45,7 @@ module _ (x : Sides) (m n : ℕ) (alike : IsFamilyAlike x m n) (kept : AreUpsKep
       let mine : IsFound w m c j = by.chosen free (change m alike.plain in_a itself (by.here h least)) in
       let one : Some j ≡ Some there.0 = same_found w single m c (Some j) (Some there.0) mine there.1 in
       let number : there.0 ≡ j = cc one in
-      subst (λ j. IsAnswer v (f o) b (f c) (g j)) number (change n alike.plain_new itself_new in_b (free_answer n (f c) (g there.0) free_n there.2))
+      subst (λ j. IsAnswer v (f o) b (f c) (g j)) number (change n alike.plain_new itself_new in_b (free_answer v n (f c) (g there.0) free_n there.2))
   forward free_n {o} {a} {b} {c} {j} in_a in_b (by.further {s = s} none up rest) =
       by.further
       (λ k h.
@@ -53,26 +53,26 @@ module _ (x : Sides) (m n : ℕ) (alike : IsFamilyAlike x m n) (kept : AreUpsKep
           none own.0 (answers m alike.plain in_a own.3 own.1 own.2))
       ((kept c single single_new).0 s up) (forward free_n in_a in_b rest)
 
-  backward : {o a b d k : ℕ} (q : ℕ) → IsFamily w m a → IsFamily v n b → IsAnswer v q b d k → (c : ℕ) → d ≡ f c → ((j : ℕ) → IsAnswer w o a c j → ⊥) → ⊥
-  backward {o} {a} {b} {d} {k} q in_a in_b (by.here h least) c is none =
+  backward : (q : ℕ) → {o a b d k : ℕ} → IsFamily w m a → IsFamily v n b → IsAnswer v q b d k → (c : ℕ) → d ≡ f c → ((j : ℕ) → IsAnswer w o a c j → ⊥) → ⊥
+  backward q {o} {a} {b} {d} {k} in_a in_b (by.here h least) c is none =
       let own = alike.covered k (answer_in n alike.plain_new in_b h) c (subst (IsClass v) is h.0) (subst (λ d. DeclaresMethod v d k) is h.1) in
       let there = (alike.members own.0 own.3).found c own.1 own.2 in
-      none there.0 (change m alike.plain itself in_a (free_answer m c there.0 free there.1))
-  backward {o} {a} {b} {d} {k} q in_a in_b (by.further {s = t} none_new up rest) c is none =
+      none there.0 (change m alike.plain itself in_a (free_answer w m c there.0 free there.1))
+  backward q {o} {a} {b} {d} {k} in_a in_b (by.further {s = t} none_new up rest) c is none =
       let below = (kept c single single_new).1 t (subst (λ d. IsSuperclass v d t) is up) in
       backward q in_a in_b rest below.0 below.1
       (λ j h. none j (by.further
           (λ i own.
               let there = (alike.members i (answer_in m alike.plain in_a own)).found c own.0 own.1 in
-              none there.0 (change m alike.plain itself in_a (free_answer m c there.0 free there.1)))
+              none there.0 (change m alike.plain itself in_a (free_answer w m c there.0 free there.1)))
           below.2 h))
 
   found_on : (free_n : IsFixed v n → ⊥) (a b k : ℕ) (o p : Option ℕ) → IsFamily w m a → IsFamily v n b → (IsFixed w a → ⊥) → (IsFixed v b → ⊥) → FoundIs w a k o → FoundIs v b (f k) p → p ≡ option_map g o
   found_on free_n a b k (Some j) p in_a in_b free_a free_b h i =
-      same_found v single_new b (f k) p (Some (g j)) i (by.chosen free_b (forward free_n in_a in_b (free_answer a k j free_a h)))
+      same_found v single_new b (f k) p (Some (g j)) i (by.chosen free_b (forward free_n in_a in_b (free_answer w a k j free_a h)))
   found_on free_n a b k None None in_a in_b free_a free_b h i = refl
   found_on free_n a b k None (Some q) in_a in_b free_a free_b h i =
-      absurd (backward (f k) in_a in_b (free_answer b (f k) q free_b i) k refl (λ j is. h j (by.chosen free_a is)))
+      absurd (backward (f k) in_a in_b (free_answer v b (f k) q free_b i) k refl (λ j is. h j (by.chosen free_a is)))
 
 -- each method of the family finds as the one that it goes to does
 pub family_alike : (x : Sides) (m : ℕ) → IsFamilyAlike x m (to_method x m) → AreUpsKept x → (j : ℕ) → IsFamily x.old m j → FindsAlike x j (to_method x j)

@@ -1,15 +1,10 @@
 -- Families of methods that are found as a whole.
-use Rattle.std.specs.Prelude.{◌≡◌, ℕ, ◌≤◌, ◌⊎◌, List}
-use Rattle.std.specs.List.{Contains}
+use Rattle.std.specs.Prelude.{◌≡◌, ℕ, ◌⊎◌}
 use Rattle.class_world.specs.declared.world.World.{World}
 use Rattle.class_world.specs.Inheritance.{DeclaresMethod}
 use Rattle.class_world.specs.Overriding.{IsClass, IsFamily, HaveOneParameterList, IsFixed, IsFound}
 use Rattle.alike_lookups.specs.Classes.{IsUpKept}
 use Rattle.alike_lookups.specs.Lookups.{Sides, FindsAlike, to_type, to_method}
-
--- the first method of a family, by number
-abbrev pub IsFirst : World → ℕ → ℕ → Type 0
-IsFirst w m f = IsFamily w m f × ((k : ℕ) → IsFamily w m k → f ≤ k)
 
 -- the method is another one, or has its parameter types, which hold no type variable
 abbrev pub IsLike : World → (k f : ℕ) → Type 0

@@ -11,7 +11,7 @@ use crate::classes::are_ups_kept;
 use crate::families::{is_family_alike, is_of_same_family};
 use crate::looks::finds_alike;
 use crate::places::image;
-use crate::plain::is_first;
+use crate::plain::is_later;
 use java_tree::Items;
 use program_maps::{Map, goes, is_one_to_one};
 use running_code::Running;
@@ -66,11 +66,33 @@ fn family_finds_alike(
     requires method { method < length old.now.world.now.methods }
     ensures { IsTrue result → FamilyFindsAlike (sides old.now new.now map.now strict) method }
 {
-    is_family_alike(old, new, map, method)
-        || each_finds_alike(old, new, map, strict, old.members.family(method))
+    if is_family_alike(old, new, map, method) {
+        return true;
+    }
+    each_finds_alike(old, new, map, strict, old.members.family(method))
 }
 
-/// Each family is looked at once, at its first method.
+/// So, where it is so for all methods with lower numbers. A family is looked at once, at its first method.
+fn is_next_alike(
+    old: &Running<'_>,
+    new: &Running<'_>,
+    map: &Map,
+    strict: bool,
+    method: u32,
+) -> bool
+    requires old { IsReady old.now }
+    requires new { IsReady new.now }
+    requires whole { IsWhole old.now.world.now new.now.world.now map.now }
+    requires ups { AreUpsKept (sides old.now new.now map.now strict) }
+    requires method { method < length old.now.world.now.methods }
+    ensures { IsTrue result → ((k : ℕ) → k < method → FamilyFindsAlike (sides old.now new.now map.now strict) k) → FamilyFindsAlike (sides old.now new.now map.now strict) method }
+{
+    if is_later(old, method) {
+        return true;
+    }
+    family_finds_alike(old, new, map, strict, method)
+}
+
 fn all_find_alike(old: &Running<'_>, new: &Running<'_>, map: &Map, strict: bool) -> bool
     requires old { IsReady old.now }
     requires new { IsReady new.now }
@@ -82,7 +104,7 @@ fn all_find_alike(old: &Running<'_>, new: &Running<'_>, map: &Map, strict: bool)
         return false;
     };
     for method in 0..count {
-        if is_first(old, method) && !family_finds_alike(old, new, map, strict, method) {
+        if !is_next_alike(old, new, map, strict, method) {
             return false;
         }
     }
@@ -103,9 +125,13 @@ fn other_finds_alike(
     requires whole { IsWhole old.now.world.now new.now.world.now map.now }
     ensures { IsTrue result → AllFindAlike (sides old.now new.now map.now strict) → FindsAlike (sides old.now new.now map.now strict) method other }
 {
-    goes(&map.methods, method, other)
-        || is_of_same_family(new, map, method, other)
-        || finds_alike(old, new, map, strict, method, other)
+    if goes(&map.methods, method, other) {
+        return true;
+    }
+    if is_of_same_family(new, map, method, other) {
+        return true;
+    }
+    finds_alike(old, new, map, strict, method, other)
 }
 
 fn others_find_alike(

@@ -26,9 +26,8 @@ fn first_class(w: &World, supers: &[JavaType]) -> Option<u32>
     ensures none { IfNone result ((s : ℕ) → IsClassAmong w.now supers.now s → ⊥) }
 {
     for d in supers {
-        let class = class_in(w, d);
-        if class.is_some() {
-            return class;
+        if let Some(class) = class_in(w, d) {
+            return Some(class);
         }
     }
     None

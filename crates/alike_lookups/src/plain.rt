@@ -1,10 +1,10 @@
 //! Families of methods (JLS 8.4.8.1), and parameter types without type variables.
 
-ghost use Rattle.std.specs.Prelude.{◌≡◌, ℕ, ◌<◌, ◌≤◌, ◌↔◌, length, IsTrue, IfSome, IfNone};
+ghost use Rattle.std.specs.Prelude.{◌≡◌, ℕ, ◌<◌, ◌↔◌, IsTrue, IfSome};
 ghost use Rattle.std.specs.List.{Contains};
 ghost use Rattle.class_world.specs.Overriding.{HaveOneParameterList, IsFamily};
 ghost use Rattle.running_code.specs.Running.{IsReady};
-ghost use Rattle.alike_lookups.specs.Families.{IsFirst, IsLike};
+ghost use Rattle.alike_lookups.specs.Families.{IsLike};
 
 use class_world::{JavaType, World, is_same};
 use running_code::Running;
@@ -48,10 +48,9 @@ pub(crate) fn are_like(w: &World, methods: &[u32], first: u32) -> bool
 }
 
 /// The first method of a method's family, by number.
-pub(crate) fn first_of(g: &Running<'_>, m: u32) -> Option<u32>
+fn first_of(g: &Running<'_>, m: u32) -> Option<u32>
     requires { IsReady g.now }
-    ensures some { IfSome result (λ f. IsFirst g.now.world.now m f) }
-    ensures none { IfNone result (length g.now.world.now.methods ≤ m) }
+    ensures { IfSome result (λ f. IsFamily g.now.world.now m f) }
 {
     if m as usize >= g.world.methods.len() {
         return None;
@@ -73,13 +72,13 @@ pub(crate) fn are_of_one_family(g: &Running<'_>, m: u32, k: u32) -> bool
     }
 }
 
-/// Whether a method is the first of its family.
-pub(crate) fn is_first(g: &Running<'_>, m: u32) -> bool
+/// Whether a method is of the family of one with a lower number.
+pub(crate) fn is_later(g: &Running<'_>, m: u32) -> bool
     requires { IsReady g.now }
-    ensures { IsFirst g.now.world.now m m → m < length g.now.world.now.methods → IsTrue result }
+    ensures { IsTrue result → (f : ℕ) × (f < m) × IsFamily g.now.world.now m f }
 {
     match first_of(g, m) {
-        Some(first) => first == m,
+        Some(first) => first < m,
         None => false,
     }
 }
