@@ -1,6 +1,6 @@
 -- Superclasses, by the types that a class declares above it.
-use Rattle.std.proofs.Common.{◌≡◌, ℕ, ◌+◌, ◌<◌, ◌≤◌, false, List, Option, Some, None, inl, inr, refl, sym, ap, ◌∙◌, subst, length, arith}
-use Rattle.std.specs.Prelude.{slice_get, IfNone}
+use Rattle.std.proofs.Common.{◌≡◌, ℕ, ◌+◌, ◌<◌, ◌≤◌, Bool, true, false, List, Option, Some, None, inl, inr, refl, sym, ap, ◌∙◌, subst, length, arith}
+use Rattle.std.specs.Prelude.{slice_get, IfNone, is_some, not}
 use Rattle.std.specs.List.{Contains}
 use Rattle.std.proofs.lemmas.Bool.{cases_lt}
 use Rattle.std.proofs.lemmas.Option.{slice_get_within}
@@ -74,3 +74,8 @@ none_more P ds i d before at none j s e low there h = elim (cases_lt j i) [
 pub none_weaker : {P Q : Type 0} (o : Option ℕ) → IfNone o P → (P → Q) → IfNone o Q
 none_weaker None h f = f h
 none_weaker (Some x) h f = tt
+
+pub none_said : {P : Type 0} (o : Option ℕ) (r : Bool) → is_some o ≡ not r → r ≡ true → IfNone o P → P
+none_said None r is h p = p
+none_said (Some x) true is h p = absurd (cc is)
+none_said (Some x) false is h p = absurd (cc h)

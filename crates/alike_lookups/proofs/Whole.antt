@@ -49,8 +49,8 @@ module _ (x : Sides) (m n : ℕ) (alike : IsFamilyAlike x m n) (kept : AreUpsKep
   forward free_n {o} {a} {b} {c} {j} in_a in_b (by.further {s = s} none up rest) =
       by.further
       (λ k h.
-          let own = alike.covered k (answer_in n alike.plain_new in_b h) c h.0 h.1 in
-          none own.0 (answers m alike.plain in_a own.3 own.1 own.2))
+      let own = alike.covered k (answer_in n alike.plain_new in_b h) c h.0 h.1 in
+      none own.0 (answers m alike.plain in_a own.3 own.1 own.2))
       ((kept c single single_new).0 s up) (forward free_n in_a in_b rest)
 
   backward : (q : ℕ) → {o a b d k : ℕ} → IsFamily w m a → IsFamily v n b → IsAnswer v q b d k → (c : ℕ) → d ≡ f c → ((j : ℕ) → IsAnswer w o a c j → ⊥) → ⊥
@@ -62,10 +62,10 @@ module _ (x : Sides) (m n : ℕ) (alike : IsFamilyAlike x m n) (kept : AreUpsKep
       let below = (kept c single single_new).1 t (subst (λ d. IsSuperclass v d t) is up) in
       backward q in_a in_b rest below.0 below.1
       (λ j h. none j (by.further
-          (λ i own.
-              let there = (alike.members i (answer_in m alike.plain in_a own)).found c own.0 own.1 in
-              none there.0 (change m alike.plain itself in_a (free_answer w m c there.0 free there.1)))
-          below.2 h))
+      (λ i own.
+      let there = (alike.members i (answer_in m alike.plain in_a own)).found c own.0 own.1 in
+      none there.0 (change m alike.plain itself in_a (free_answer w m c there.0 free there.1)))
+      below.2 h))
 
   found_on : (free_n : IsFixed v n → ⊥) (a b k : ℕ) (o p : Option ℕ) → IsFamily w m a → IsFamily v n b → (IsFixed w a → ⊥) → (IsFixed v b → ⊥) → FoundIs w a k o → FoundIs v b (f k) p → p ≡ option_map g o
   found_on free_n a b k (Some j) p in_a in_b free_a free_b h i =

@@ -73,13 +73,7 @@ fn family_finds_alike(
 }
 
 /// So, where it is so for all methods with lower numbers. A family is looked at once, at its first method.
-fn is_next_alike(
-    old: &Running<'_>,
-    new: &Running<'_>,
-    map: &Map,
-    strict: bool,
-    method: u32,
-) -> bool
+fn is_next_alike(old: &Running<'_>, new: &Running<'_>, map: &Map, strict: bool, method: u32) -> bool
     requires old { IsReady old.now }
     requires new { IsReady new.now }
     requires whole { IsWhole old.now.world.now new.now.world.now map.now }
@@ -171,8 +165,14 @@ pub fn calls_found(
     requires new { IsReady new.now }
     ensures { IsTrue result → CallsFoundTold old.now new.now map.now others.now strict }
 {
-    is_whole(old, new, map)
-        && are_ups_kept(old.world, new.world, &map.types)
-        && all_find_alike(old, new, map, strict)
-        && others_find_alike(old, new, map, others.as_slice(), strict)
+    if !is_whole(old, new, map) {
+        return false;
+    }
+    if !are_ups_kept(old.world, new.world, &map.types) {
+        return false;
+    }
+    if !all_find_alike(old, new, map, strict) {
+        return false;
+    }
+    others_find_alike(old, new, map, others.as_slice(), strict)
 }

@@ -38,7 +38,13 @@ fn superclass(w: &World, class: u32) -> Option<u32>
     ensures none { IfNone result ((s : ℕ) → IsSuperclass w.now class s → ⊥) }
 {
     match w.types.get(class as usize) {
-        Some(info) => { if info.interface { None } else { first_class(w, info.supers.as_slice()) } }
+        Some(info) => {
+            if info.interface {
+                None
+            } else {
+                first_class(w, info.supers.as_slice())
+            }
+        }
         None => None,
     }
 }

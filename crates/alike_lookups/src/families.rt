@@ -118,13 +118,7 @@ fn declares_of(old: &Running<'_>, method: u32, class: u32) -> bool
 }
 
 /// Whether a class that declares a method of the new family is a new one, or declares a method of the old family in the old program.
-fn is_covered(
-    old: &Running<'_>,
-    new: &Running<'_>,
-    map: &Map,
-    method: u32,
-    member: u32,
-) -> bool
+fn is_covered(old: &Running<'_>, new: &Running<'_>, map: &Map, method: u32, member: u32) -> bool
     requires old { IsReady old.now }
     requires whole { IsWhole old.now.world.now new.now.world.now map.now }
     ensures { IsTrue result → IsCovered (sides old.now new.now map.now true) method member }
@@ -141,13 +135,7 @@ fn is_covered(
     }
 }
 
-fn are_covered(
-    old: &Running<'_>,
-    new: &Running<'_>,
-    map: &Map,
-    method: u32,
-    family: &[u32],
-) -> bool
+fn are_covered(old: &Running<'_>, new: &Running<'_>, map: &Map, method: u32, family: &[u32]) -> bool
     requires old { IsReady old.now }
     requires whole { IsWhole old.now.world.now new.now.world.now map.now }
     ensures { IsTrue result → (k : ℕ) → Contains family.now k → IsCovered (sides old.now new.now map.now true) method k }
@@ -177,10 +165,16 @@ pub(crate) fn is_family_alike(old: &Running<'_>, new: &Running<'_>, map: &Map, m
     }
     let family = old.members.family(method);
     let family_new = new.members.family(to);
-    are_like(old.world, family, method)
-        && are_like(new.world, family_new, to)
-        && are_members_alike(old, new, map, method, to, family)
-        && are_covered(old, new, map, method, family_new)
+    if !are_like(old.world, family, method) {
+        return false;
+    }
+    if !are_like(new.world, family_new, to) {
+        return false;
+    }
+    if !are_members_alike(old, new, map, method, to, family) {
+        return false;
+    }
+    are_covered(old, new, map, method, family_new)
 }
 
 /// Whether another method of the new program is of the family of that to which a method goes, which answers as a whole. Then it finds the same.
@@ -191,7 +185,10 @@ pub(crate) fn is_of_same_family(new: &Running<'_>, map: &Map, method: u32, other
     let Some(to) = image(&map.methods, method) else {
         return false;
     };
-    if is_fixed(new.world, to) || is_fixed(new.world, other) || other as usize >= new.world.methods.len() {
+    if is_fixed(new.world, to)
+        || is_fixed(new.world, other)
+        || other as usize >= new.world.methods.len()
+    {
         return false;
     }
     are_of_one_family(new, other, to) && are_like(new.world, new.members.family(other), other)

@@ -31,8 +31,7 @@ fn have_one_list(w: &World, m: u32, k: u32) -> bool
     let Some(other) = method_of(w, k) else {
         return false;
     };
-    are_same(info.params.as_slice(), other.params.as_slice())
-        && are_closed(info.params.as_slice())
+    are_same(info.params.as_slice(), other.params.as_slice()) && are_closed(info.params.as_slice())
 }
 
 /// Whether each method of the list is the first one, or has its parameter types, which hold no type variable.

@@ -259,7 +259,7 @@ pub order_told : (w v : World) (x : Numbers) → KeepsOrder x w v → KeepsOrder
 order_told w v x h p c d ways here there told told_new s t plain high =
     let old : IsTrue (c.sub s t) ↔ IsBelow w s t = subst (λ w. IsTrue (c.sub s t) ↔ IsBelow w s t) here (told.sub s t) in
     let moved_there : IsTrue (d.sub (moved p.ways.types s) (moved p.ways.types t)) ↔ IsBelow v (moved p.ways.types s) (moved p.ways.types t) =
-        subst (λ w. IsTrue (d.sub (moved p.ways.types s) (moved p.ways.types t)) ↔ IsBelow w (moved p.ways.types s) (moved p.ways.types t)) there (told_new.sub (moved p.ways.types s) (moved p.ways.types t)) in
+    subst (λ w. IsTrue (d.sub (moved p.ways.types s) (moved p.ways.types t)) ↔ IsBelow w (moved p.ways.types s) (moved p.ways.types t)) there (told_new.sub (moved p.ways.types s) (moved p.ways.types t)) in
     let kept : IsBelow v (moved p.ways.types s) (moved p.ways.types t) ↔ IsBelow w s t = subst (λ f. IsBelow v (moved f s) (moved f t) ↔ IsBelow w s t) (sym ways) (h.order s t plain high) in
     same_answers (d.sub (moved p.ways.types s) (moved p.ways.types t)) (c.sub s t) moved_there old kept
 

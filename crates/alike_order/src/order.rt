@@ -73,13 +73,7 @@ fn is_class_kept(
     true
 }
 
-fn are_classes_kept(
-    alloc: Global,
-    old: &World,
-    new: &World,
-    types: &Numbers,
-    count: u32,
-) -> bool
+fn are_classes_kept(alloc: Global, old: &World, new: &World, types: &Numbers, count: u32) -> bool
     requires old { IsSound old.now }
     requires new { IsSound new.now }
     requires count { count ≡ length types.now.to }

@@ -5,10 +5,10 @@ use Rattle.alike_lookups.proofs.Ups.{ups_kept}
 use Rattle.alike_lookups.proofs.calls.calls_found.Goals as goal
 
 pub all_find_alike-requires-clause-ups : goal.all_find_alike-requires-clause-ups
-all_find_alike-requires-clause-ups c = ups_kept (sides c.args.old.now c.args.new.now c.args.map.now c.args.strict) (c.is_whole.ensures c.if-is_whole.true) (c.are_ups_kept.ensures c.if-are_ups_kept.true)
+all_find_alike-requires-clause-ups c = ups_kept (sides c.args.old.now c.args.new.now c.args.map.now c.args.strict) (c.is_whole.ensures c.if-not-is_whole.false) (c.are_ups_kept.ensures c.if-not-are_ups_kept.false)
 
-pub returns-then-all_find_alike : goal.returns-then-all_find_alike
-returns-then-all_find_alike c h =
-    let all = c.all_find_alike.ensures c.if-all_find_alike.true in
-    calls_told c.args.old.now c.args.new.now c.args.map.now c.args.others.now c.args.strict (c.is_whole.ensures c.if-is_whole.true) all
+pub returns : goal.returns
+returns c h =
+    let all = c.all_find_alike.ensures c.if-not-all_find_alike.false in
+    calls_told c.args.old.now c.args.new.now c.args.map.now c.args.others.now c.args.strict (c.is_whole.ensures c.if-not-is_whole.false) all
     (subst (OthersFindAlike (sides c.args.old.now c.args.new.now c.args.map.now c.args.strict)) c.as_slice.ensures (c.others_find_alike.ensures h all))

@@ -9,5 +9,5 @@ returns-then-are_of_one_family c h =
       free = λ f. let is = c.is_fixed.ensures.1 f in cc (is, c.if-is_fixed.false);
       free_other = λ f. let is = c.is_fixed-else-is_fixed.ensures.1 f in cc (is, c.if-is_fixed-2.false);
       family = c.are_of_one_family.ensures c.if-are_of_one_family.true;
-      plain = λ k is. c.are_like.ensures h k (((c.family.ensures v c.requires.members (omega arith)).0 k).1 is);
+      plain = λ k is. c.are_like.ensures h k (((c.family.ensures v c.requires.new.members (omega arith)).0 k).1 is);
     })
