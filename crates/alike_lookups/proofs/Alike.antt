@@ -1,14 +1,12 @@
 -- Methods that find alike on objects of every class.
-use Rattle.std.proofs.Common.{◌≡◌, ℕ, ◌+◌, ◌<◌, ◌≤◌, ◌⊎◌, Bool, false, List, Option, Some, None, inl, inr, refl, sym, ap, ◌∙◌, subst, length, arith}
+use Rattle.std.proofs.Common.{◌≡◌, ℕ, ◌+◌, ◌<◌, ◌≤◌, ◌⊎◌, Bool, List, Option, Some, None, inl, inr, sym, ap, ◌∙◌, subst, length, arith}
 use Rattle.std.specs.Prelude.{slice_get}
 use Rattle.std.specs.Option.{option_map}
 use Rattle.std.proofs.lemmas.Bool.{cases_lt}
 use Rattle.std.proofs.lemmas.Option.{slice_get_past}
-use Rattle.class_world.specs.declared.world.World.{World}
 use Rattle.class_world.specs.Overriding.{IsFixed, FoundIs}
 use Rattle.core_meaning.specs.Code.{Code}
 use Rattle.running_code.specs.declared.running.Running.{Running}
-use Rattle.running_code.specs.Running.{HaveOneSuperclass, IsCode}
 use Rattle.running_code.proofs.Lookups.{same_found}
 use Rattle.program_maps.specs.declared.numbers.Numbers.{Numbers}
 use Rattle.program_maps.specs.declared.numbers.Map.{Map}

@@ -1,5 +1,5 @@
 -- Plain families: each of their methods that a class declares answers for each other one.
-use Rattle.std.proofs.Common.{◌≡◌, ℕ, List, Option, Some, None, inl, inr, ◌↔◌, refl, sym, ap, ◌∙◌, subst, map}
+use Rattle.std.proofs.Common.{◌≡◌, ℕ, List, Option, Some, None, inl, inr, ◌↔◌, sym, ap, ◌∙◌, subst, map}
 use Rattle.std.specs.Prelude.{slice_get, IfSome}
 use Rattle.std.specs.List.{Contains}
 use Rattle.class_world.specs.declared.world.World.{World}

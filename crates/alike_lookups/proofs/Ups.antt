@@ -1,16 +1,14 @@
 -- Superclasses, by the types that a class declares above it.
-use Rattle.std.proofs.Common.{◌≡◌, ℕ, ◌+◌, ◌<◌, ◌≤◌, Bool, true, false, List, Option, Some, None, inl, inr, refl, sym, ap, ◌∙◌, subst, length, arith}
+use Rattle.std.proofs.Common.{◌≡◌, ℕ, ◌+◌, ◌<◌, Bool, true, false, List, Option, Some, None, inl, inr, refl, sym, ap, ◌∙◌, subst, length, arith}
 use Rattle.std.specs.Prelude.{slice_get, IfNone, is_some, not}
-use Rattle.std.specs.List.{Contains}
 use Rattle.std.proofs.lemmas.Bool.{cases_lt}
 use Rattle.std.proofs.lemmas.Option.{slice_get_within}
 use Rattle.class_world.specs.declared.world.World.{World}
 use Rattle.class_world.specs.declared.world.TypeInfo.{TypeInfo}
 use Rattle.class_world.specs.declared.world.JavaType.{JavaType}
 use Rattle.class_world.specs.declared.world.JavaType.TheVariants as ty
-use Rattle.class_world.specs.Overriding.{IsClass, IsSuperclass}
-use Rattle.running_code.specs.Running.{HaveOneSuperclass}
-use Rattle.alike_lookups.specs.Classes.{IsClassIn, IsClassAmong, IsUpKept}
+use Rattle.class_world.specs.Overriding.{IsSuperclass}
+use Rattle.alike_lookups.specs.Classes.{IsClassAmong, IsUpKept}
 use Rattle.alike_lookups.specs.Families.{AreUpsKept}
 use Rattle.alike_lookups.specs.Lookups.{Sides, IsWhole, to_type}
 use Rattle.alike_lookups.proofs.Lists.{contains_at, at_contains}

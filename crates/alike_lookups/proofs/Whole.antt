@@ -1,6 +1,5 @@
 -- Families that are found as a whole.
-use Rattle.std.proofs.Common.{◌≡◌, ℕ, ◌<◌, ◌≤◌, true, false, Option, Some, None, inl, inr, refl, sym, ap, ◌∙◌, subst, length, arith}
-use Rattle.std.specs.Prelude.{slice_get}
+use Rattle.std.proofs.Common.{◌≡◌, ℕ, true, Option, Some, None, inl, inr, refl, subst}
 use Rattle.std.specs.Option.{option_map}
 use Rattle.class_world.specs.declared.world.World.{World}
 use Rattle.class_world.specs.Inheritance.{DeclaresMethod}
@@ -8,10 +7,10 @@ use Rattle.class_world.specs.Overriding as by
 use Rattle.class_world.specs.Overriding.{IsClass, IsFamily, Answers, IsAnswer, IsFixed, IsFound, FoundIs, IsSuperclass}
 use Rattle.running_code.specs.Running.{HaveOneSuperclass}
 use Rattle.running_code.proofs.Lookups.{same_found}
-use Rattle.alike_lookups.specs.Lookups.{Sides, FindsOn, FindsAlike, LedBy, to_type, to_method}
+use Rattle.alike_lookups.specs.Lookups.{Sides, FindsAlike, to_type, to_method}
 use Rattle.alike_lookups.specs.Families.{IsFamilyAlike, AreUpsKept, IsStandIn}
 use Rattle.alike_lookups.proofs.Found.{free_answer}
-use Rattle.alike_lookups.proofs.Plains.{answers, answer_in, change, found_alike, family_on, family_back}
+use Rattle.alike_lookups.proofs.Plains.{answers, answer_in, change, found_alike}
 
 module _ (x : Sides) (m n : ℕ) (alike : IsFamilyAlike x m n) (kept : AreUpsKept x) (single : HaveOneSuperclass x.old) (single_new : HaveOneSuperclass x.new) where
   abbrev w : World

@@ -9,7 +9,6 @@ use Rattle.class_world.specs.Overriding.{FoundIs}
 use Rattle.core_meaning.specs.Code.{Code}
 use Rattle.running_code.specs.declared.running.Running.{Running}
 use Rattle.running_code.specs.Running.{HaveOneSuperclass, IsCode}
-use Rattle.program_maps.specs.declared.numbers.Numbers.{Numbers}
 use Rattle.program_maps.specs.declared.numbers.Map.{Map}
 use Rattle.program_maps.specs.Ways.{LeadsBack, goes_to, ways}
 use Rattle.program_maps.specs.Pairs.{Pair}

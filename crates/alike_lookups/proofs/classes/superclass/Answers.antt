@@ -1,5 +1,5 @@
 use Rattle.std.proofs.Common.{sym}
-use Rattle.alike_lookups.proofs.Ups.{among_up, up_among, none_weaker}
+use Rattle.alike_lookups.proofs.Ups.{up_among, none_weaker}
 use Rattle.alike_lookups.proofs.classes.superclass.Goals as goal
 
 pub returns-else-info-clause-none : goal.returns-else-info-clause-none

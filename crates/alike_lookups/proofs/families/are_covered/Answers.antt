@@ -1,4 +1,4 @@
-use Rattle.std.proofs.Common.{◌≡◌, true, below_more, get_or, arith}
+use Rattle.std.proofs.Common.{true, below_more, get_or, arith}
 use Rattle.alike_lookups.specs.Lookups.{sides}
 use Rattle.alike_lookups.specs.Families.{IsCovered}
 use Rattle.alike_lookups.proofs.Lists.{each_in}
