@@ -1,0 +1,6 @@
+pub mod Lists
+pub mod Found
+pub mod Alike
+pub mod Ups
+pub mod Plains
+pub mod Whole

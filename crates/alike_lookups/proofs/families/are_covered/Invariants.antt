@@ -1,0 +1,7 @@
+use Rattle.std.proofs.Common.{ℕ, ◌<◌, true, get_or}
+use Rattle.alike_lookups.specs.Lookups.{sides}
+use Rattle.alike_lookups.specs.Families.{IsCovered}
+use Rattle.alike_lookups.proofs.families.are_covered.Given as goal
+
+abbrev pub invariant-loop-member : goal.invariant-loop-member
+invariant-loop-member l = (i : ℕ) → i < l.member-index → IsCovered (sides l.old l.new l.map true) l.method (get_or l.family i 0)
