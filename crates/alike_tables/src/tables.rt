@@ -13,7 +13,8 @@ use crate::types::are_types_kept;
 use class_world::Walk;
 use java_tree::NoMemory;
 use program_maps::{Map, goes, is_one_to_one};
-use running_code::{Running, most_initialised};
+use program_runs::most_initialised;
+use running_code::Running;
 use std::alloc::Global;
 
 fn is_whole(old: &Running<'_>, new: &Running<'_>, map: &Map) -> bool
@@ -54,9 +55,9 @@ fn is_walk_kept(old: &Running<'_>, new: &Running<'_>, map: &Map) -> bool
 fn is_depth_kept(old: &Running<'_>, new: &Running<'_>) -> bool
     ensures { IsTrue result → Both old.now new.now IsDepthKept }
 {
-    match most_initialised(old) {
+    match most_initialised(old.world) {
         None => false,
-        Some(before) => match most_initialised(new) {
+        Some(before) => match most_initialised(new.world) {
             None => false,
             Some(after) => before == after,
         },

@@ -5,17 +5,17 @@ ghost use Rattle.std.specs.Option.{option_map};
 ghost use Rattle.core_meaning.specs.Code as code;
 ghost use Rattle.core_meaning.specs.Classes as classes;
 ghost use Rattle.core_meaning.specs.Runs as runs;
-ghost use Rattle.running_code.specs.Running.{IsReady};
+ghost use Rattle.running_code.specs.Running.{IsReady, Makes};
 ghost use Rattle.program_maps.specs.Ways.{goes_to, ways};
 ghost use Rattle.alike_tables.specs.Tables as spec;
 ghost use Rattle.alike_tables.specs.Tables.{AreTypesKept, TellsWhether, IsObjectKept, IsTypeKept};
 
 use crate::numbers::{is_led, target};
 use class_world::World;
-use core_meaning::{Held, Progress, Thing};
-use java_tree::NoMemory;
+use core_meaning::{Held, Progress, Thing, Value};
+use java_tree::{Items, NoMemory};
 use program_maps::{Map, Numbers, goes};
-use running_code::{Running, full_name, main_of, new_object, superclass};
+use running_code::{Running, main_of, name_of, new_object, superclass};
 use std::alloc::Global;
 
 fn is_superclass_kept(
@@ -94,7 +94,20 @@ fn is_object_kept(
     Ok(are_held_kept(fields, held_of(&before), held_of(&after)))
 }
 
-/// Whether full names (JLS 6.7) are the same.
+/// The full name of a class (JLS 6.7), empty for a number of none: that of the class of an object.
+fn full_name(alloc: Global, g: &Running<'_>, class: u32) -> Result<Items<u16>, NoMemory>
+    requires { IsReady g.now }
+    ensures { Makes g.now result (λ c. classes.full_name c class) }
+{
+    let thing = Thing::Object {
+        class,
+        fields: Items::new(alloc),
+        message: Value::Null,
+    };
+    name_of(alloc, g, &thing)
+}
+
+/// Whether full names are the same.
 fn is_name_kept(
     alloc: Global,
     old: &Running<'_>,

@@ -25,6 +25,7 @@ use crate::ended::Ended;
 use crate::reports::report;
 use crate::runs::run_class;
 pub use answer::RunAnswer;
+pub use runs::most_initialised;
 use class_world::World;
 use core_meaning::{End, State, Value};
 use java_core::CoreProgram;

@@ -212,13 +212,19 @@ fn class_count(types: &[TypeInfo]) -> usize
     types.iter().filter(|info| !info.interface).count()
 }
 
+/// At least as many as the types that a run can initialise (JLS 12.4.1): the classes and, for interfaces, the fields. None where 64 bits do not hold it.
+pub fn most_initialised(w: &World) -> Option<u64>
+    ensures { IfSome result (λ n. n ≡ spec.most_initialised w.now) }
+{
+    let classes = class_count(w.types.as_slice()) as u64;
+    classes.checked_add(w.fields.len() as u64)
+}
+
 // The depth in which a program runs for so many steps, if 64 bits hold it.
 fn depth_of(w: &World, steps: u64) -> Option<u64>
     ensures { IfSome result (λ d. d ≡ steps + spec.most_initialised w.now) }
 {
-    let classes = class_count(w.types.as_slice()) as u64;
-    let fields = w.fields.len() as u64;
-    steps.checked_add(classes)?.checked_add(fields)
+    steps.checked_add(most_initialised(w)?)
 }
 
 /// The run of a class with these arguments, within so many steps.

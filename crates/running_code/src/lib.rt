@@ -18,9 +18,9 @@ pub use bodies::{CodeBody, body_of};
 pub use literals::joined_literal;
 pub use looks::{
     all_fields, field_owner, fields_of, found, has_initialiser, is_constant, is_instance_field,
-    method_owner, most_initialised, superclass,
+    method_owner, superclass,
 };
 pub use mains::main_of;
-pub use names::{full_name, name_of, text_of};
+pub use names::{name_of, text_of};
 pub use objects::new_object;
 pub use running::{Running, prepare};

@@ -1,10 +1,9 @@
 //! What a run looks up by number, each in constant time.
 
-ghost use Rattle.std.specs.Prelude.{◌≡◌, IfSome, filter, length, map, not, slice_get};
+ghost use Rattle.std.specs.Prelude.{◌≡◌, map, slice_get};
 ghost use Rattle.std.specs.Option.{option_map};
 ghost use Rattle.class_world.specs.declared.world.FieldInfo as fields;
 ghost use Rattle.class_world.specs.declared.world.MethodInfo as methods;
-ghost use Rattle.class_world.specs.declared.world.TypeInfo as infos;
 ghost use Rattle.type_kinds.specs.Members.{field_at};
 ghost use Rattle.java_core.specs.View.{field_plain};
 ghost use Rattle.core_meaning.specs.Code as code;
@@ -15,7 +14,6 @@ ghost use Rattle.running_code.specs.Running.{IsReady, Tells};
 use crate::entries::{entry_at, has_constant};
 use crate::running::Running;
 use crate::types::{is_fixed_in, is_static, superclass_in};
-use class_world::TypeInfo;
 use java_core::CoreField;
 
 /// The fields that a class declares, in text order (JLS 8.3). None where no file declares the class.
@@ -100,18 +98,4 @@ pub fn found(g: &Running<'_>, method: u32, class: u32) -> Option<u32>
     ensures { Tells g.now result (λ c. c.found method class) }
 {
     g.members.lookup(class, method)
-}
-
-fn class_count(types: &[TypeInfo]) -> usize
-    ensures { result ≡ length (filter (λ (i : infos.TypeInfo). not i.interface) types.now) }
-{
-    types.iter().filter(|info| !info.interface).count()
-}
-
-/// A number that no run's initialised types exceed (JLS 12.4.1): of classes, and of fields for the interfaces. None where 64 bits do not hold it.
-pub fn most_initialised(g: &Running<'_>) -> Option<u64>
-    ensures { IfSome result (λ n. Tells g.now n (λ c. runs.most_initialised c.world)) }
-{
-    let classes = class_count(g.world.types.as_slice()) as u64;
-    classes.checked_add(g.world.fields.len() as u64)
 }

@@ -61,8 +61,8 @@ fn push_full_name(g: &Running<'_>, class: u32, out: &mut Items<u16>) -> Result<(
     }
 }
 
-/// The full name of a class, empty for a number of none.
-pub fn full_name(alloc: Global, g: &Running<'_>, class: u32) -> Result<Items<u16>, NoMemory>
+// The full name of a class.
+fn full_name(alloc: Global, g: &Running<'_>, class: u32) -> Result<Items<u16>, NoMemory>
     requires { IsReady g.now }
     ensures { Makes g.now result (λ c. classes.full_name c class) }
 {
