@@ -26,11 +26,11 @@ pub record IsWalk {X Y : Type 0} (R : X → Y → Type 0) (G : List X → List Y
   pub fewer : (x : X) (xs : List X) → G (x ∷ xs) [] → ⊥
   pub more : (y : Y) (ys : List Y) → G [] (y ∷ ys) → ⊥
 
-module _ {X Y : Type 0} (R : X → Y → Type 0) (G : List X → List Y → Type 0) (walk : IsWalk R G) where
-  -- the rests are alike where the lists are
-  abbrev pub SoFar : ℕ → List X → List Y → Type 0
-  SoFar i xs ys = G xs ys ↔ G (drop i xs) (drop i ys)
+-- the rests behind so many items are alike where the lists are
+abbrev pub SoFar : {X Y : Type 0} (G : List X → List Y → Type 0) → ℕ → List X → List Y → Type 0
+SoFar G i xs ys = G xs ys ↔ G (drop i xs) (drop i ys)
 
+module _ {X Y : Type 0} (R : X → Y → Type 0) (G : List X → List Y → Type 0) (walk : IsWalk R G) where
   pub as_long : (xs : List X) (ys : List Y) → G xs ys → length ys ≡ length xs
   as_long [] [] h = refl
   as_long [] (y ∷ ys) h = absurd (walk.more y ys h)
@@ -44,10 +44,10 @@ module _ {X Y : Type 0} (R : X → Y → Type 0) (G : List X → List Y → Type
       subst (λ zs. G zs (drop i ys) ↔ (R x y × G (drop (i + 1) xs) (drop (i + 1) ys))) (sym (rest_at xs i x low is))
       (subst (λ zs. G (x ∷ drop (i + 1) xs) zs ↔ (R x y × G (drop (i + 1) xs) (drop (i + 1) ys))) (sym (got_at ys i y got)) by)
 
-  pub next : (i : ℕ) (xs : List X) (ys : List Y) (x : X) (y : Y) → i < length xs → x ≡ get_or xs i x → slice_get ys i ≡ Some y → R x y → SoFar i xs ys → SoFar (i + 1) xs ys
+  pub next : (i : ℕ) (xs : List X) (ys : List Y) (x : X) (y : Y) → i < length xs → x ≡ get_or xs i x → slice_get ys i ≡ Some y → R x y → SoFar G i xs ys → SoFar G (i + 1) xs ys
   next i xs ys x y low is got alike so_far =
       let by = at_items i xs ys x y low is got in
       (λ h. (by.0 (so_far.0 h)).1, λ h. so_far.1 (by.1 (alike, h)))
 
-  pub unlike : (i : ℕ) (xs : List X) (ys : List Y) (x : X) (y : Y) → i < length xs → x ≡ get_or xs i x → slice_get ys i ≡ Some y → (R x y → ⊥) → SoFar i xs ys → G xs ys → ⊥
+  pub unlike : (i : ℕ) (xs : List X) (ys : List Y) (x : X) (y : Y) → i < length xs → x ≡ get_or xs i x → slice_get ys i ≡ Some y → (R x y → ⊥) → SoFar G i xs ys → G xs ys → ⊥
   unlike i xs ys x y low is got not so_far h = not ((at_items i xs ys x y low is got).0 (so_far.0 h)).0

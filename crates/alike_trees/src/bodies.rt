@@ -5,7 +5,7 @@ ghost use Rattle.std.specs.Option.{option_map};
 ghost use Rattle.java_core.specs.View.{field_plain};
 ghost use Rattle.program_maps.specs.Trees.{FieldAlike, FieldsAlike, FirstAlike, BodyAlike, OptBodyAlike};
 ghost use Rattle.running_code.specs.Bodies.{body_plain};
-ghost use Rattle.alike_trees.specs.Sides.{IsReady, pair};
+ghost use Rattle.alike_trees.specs.Compared.{IsReady, pair};
 
 use crate::exprs::optional_alike;
 use crate::sides::{Sides, Unlike, check};

@@ -7,7 +7,7 @@ ghost use Rattle.program_maps.specs.Pairs.{Pair};
 ghost use Rattle.java_core.specs.declared.expr.Before.{Before};
 ghost use Rattle.java_core.specs.Plain as e;
 ghost use Rattle.java_core.specs.View.{maybe, plain, plains, written};
-ghost use Rattle.alike_trees.specs.Sides.{pair};
+ghost use Rattle.alike_trees.specs.Compared.{pair};
 ghost use Rattle.alike_trees.specs.Inside.{GivesCall, GivesList, GivesMaybe, GivesStaticCall};
 
 use crate::sides::{Sides, Unlike, check};

@@ -5,7 +5,7 @@ ghost use Rattle.std.specs.Option.{option_map};
 ghost use Rattle.java_core.specs.View.{maybe, plain, plains};
 ghost use Rattle.program_maps.specs.Pairs.{CallAlike};
 ghost use Rattle.program_maps.specs.Trees.{ExprAlike, ExprsAlike, MaybeExprAlike, OptExprAlike};
-ghost use Rattle.alike_trees.specs.Sides.{IsReady, pair};
+ghost use Rattle.alike_trees.specs.Compared.{IsReady, pair};
 
 use crate::calls::{
     Call, StaticCall, in_call, in_filled, in_new, in_new_array, in_static_call, in_static_field,

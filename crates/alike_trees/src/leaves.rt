@@ -2,7 +2,7 @@
 
 ghost use Rattle.program_maps.specs.Pairs.{Pair};
 ghost use Rattle.java_core.specs.Plain as e;
-ghost use Rattle.alike_trees.specs.Sides.{pair};
+ghost use Rattle.alike_trees.specs.Compared.{pair};
 ghost use Rattle.alike_trees.specs.Inside.{TellsLeaf};
 
 use crate::sides::{Sides, Unlike, check};

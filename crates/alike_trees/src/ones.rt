@@ -5,7 +5,7 @@ ghost use Rattle.program_maps.specs.Pairs.{Pair};
 ghost use Rattle.class_world.specs.declared.world.JavaType.{JavaType};
 ghost use Rattle.java_core.specs.Plain as e;
 ghost use Rattle.java_core.specs.View.{plain, written};
-ghost use Rattle.alike_trees.specs.Sides.{IsReady, pair};
+ghost use Rattle.alike_trees.specs.Compared.{IsReady, pair};
 ghost use Rattle.alike_trees.specs.Inside.{GivesOne};
 
 use crate::sides::{Sides, Unlike, check};

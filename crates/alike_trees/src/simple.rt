@@ -6,7 +6,7 @@ ghost use Rattle.java_core.specs.Plain as e;
 ghost use Rattle.java_core.specs.View.{plain, plains, var_plain};
 ghost use Rattle.program_maps.specs.Pairs.{Pair};
 ghost use Rattle.program_maps.specs.Trees.{VarAlike, VarsAlike};
-ghost use Rattle.alike_trees.specs.Sides.{IsReady, pair};
+ghost use Rattle.alike_trees.specs.Compared.{IsReady, pair};
 ghost use Rattle.alike_trees.specs.Inside.{TellsStmt};
 
 use crate::exprs::{expr_alike, exprs_alike, optional_alike};

@@ -4,7 +4,7 @@ ghost use Rattle.std.specs.Prelude.{◌≡◌, ◌↔◌, IsTrue, map};
 ghost use Rattle.std.specs.Option.{option_map};
 ghost use Rattle.java_core.specs.View.{catch_plain, catch_row, group_plain, group_row, param_plain, stmt_maybe, stmt_plain, stmts_plain};
 ghost use Rattle.program_maps.specs.Trees.{CatchAlike, CatchParamAlike, CatchesAlike, GroupAlike, GroupsAlike, MaybeStmtAlike, StmtAlike, StmtsAlike};
-ghost use Rattle.alike_trees.specs.Sides.{IsReady, pair};
+ghost use Rattle.alike_trees.specs.Compared.{IsReady, pair};
 
 use crate::blocks::{
     Branches, Each, For, Try, in_block, in_do, in_for, in_for_each, in_if, in_switch, in_try,

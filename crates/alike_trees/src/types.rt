@@ -7,7 +7,7 @@ ghost use Rattle.class_world.specs.declared.world.JavaType.TheVariants as ty;
 ghost use Rattle.type_kinds.specs.Kinds as kinds;
 ghost use Rattle.program_maps.specs.Ways.{goes_to};
 ghost use Rattle.program_maps.specs.Pairs.{CallAlike, CastAlike, FitAlike, ImpliedAlike, IsClassBelow};
-ghost use Rattle.alike_trees.specs.Sides.{IsReady, pair};
+ghost use Rattle.alike_trees.specs.Compared.{IsReady, pair};
 
 use crate::sides::{Sides, Unlike};
 use class_world::JavaType;

@@ -1,10 +1,10 @@
-use Rattle.std.proofs.Common.{◌+◌, drop}
-use Rattle.std.specs.Prelude.{◌↔◌}
+use Rattle.std.proofs.Common.{◌+◌}
 use Rattle.std.specs.Option.{option_map}
 use Rattle.java_core.specs.View.{maybe, plain, plains}
 use Rattle.program_maps.specs.Trees.{ExprsAlike}
-use Rattle.alike_trees.specs.Sides.{pair}
+use Rattle.alike_trees.specs.Compared.{pair}
 use Rattle.alike_trees.proofs.Heights.{height, heights, maybe_height}
+use Rattle.alike_trees.proofs.Walks.{SoFar}
 use Rattle.alike_trees.proofs.exprs.+expr_alike.Given as goal
 
 abbrev pub decreases-expr_alike : goal.decreases-expr_alike
@@ -29,4 +29,4 @@ abbrev pub decreases-exprs_alike : goal.decreases-exprs_alike
 decreases-exprs_alike l = heights (plains l.old.now)
 
 abbrev pub invariant-exprs_alike-loop-at : goal.invariant-exprs_alike-loop-at
-invariant-exprs_alike-loop-at l = ExprsAlike (pair l.sides) (plains l.old) (plains l.new) ↔ ExprsAlike (pair l.sides) (plains (drop l.at l.old)) (plains (drop l.at l.new))
+invariant-exprs_alike-loop-at l = SoFar (λ xs ys. ExprsAlike (pair l.sides) (plains xs) (plains ys)) l.at l.old l.new
