@@ -4,5 +4,5 @@
 pub mod numbers;
 mod types;
 
-pub use numbers::{Map, Numbers, goes, is_one_to_one, same};
+pub use numbers::{Map, Numbers, goes, gone, identity, is_one_to_one};
 pub use types::{is_moved, is_moved_by_erasure};
