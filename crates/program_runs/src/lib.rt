@@ -25,7 +25,6 @@ use crate::ended::Ended;
 use crate::reports::report;
 use crate::runs::run_class;
 pub use answer::RunAnswer;
-pub use runs::most_initialised;
 use class_world::World;
 use core_meaning::{End, State, Value};
 use java_core::CoreProgram;
@@ -33,6 +32,7 @@ use java_tree::{Names, NoMemory};
 use member_table::Members;
 use run_state::reads::class_of;
 use running_code::{Running, prepare};
+pub use runs::most_initialised;
 use std::alloc::Global;
 
 /// Object, by number.
