@@ -1,12 +1,12 @@
 -- Erased types by their forms, and what a map of numbers makes of each.
-use Rattle.std.proofs.Common.{◌≡◌, ℕ, List, [], map, refl, sym, ap, ◌∙◌, subst}
+use Rattle.std.proofs.Common.{◌≡◌, ℕ, List, [], map, sym, ap, ◌∙◌, subst}
 use Rattle.java_tree.specs.declared.tree.Primitive.{Primitive}
 use Rattle.class_world.specs.declared.world.JavaType.{JavaType, roll-JavaType}
 use Rattle.class_world.specs.declared.world.JavaType.TheVariants as ty
 use Rattle.class_world.specs.declared.world.JavaType.TheOpen as form
 use Rattle.class_world.specs.declared.world.JavaType.TheOpen.{JavaType-F}
 use Rattle.class_world.specs.declared.world.JavaType.TheFolds.{fold_out-JavaType, map-JavaType, ind-JavaType}
-use Rattle.class_world.specs.Types.{object_type, erased, IsReference, of_class, of_variable, of_array}
+use Rattle.class_world.specs.Types.{erased, IsReference, of_class, of_variable, of_array}
 use Rattle.class_world.proofs.Forms.{class_kind, variable_kind, same_element, same_class}
 use Rattle.class_world.proofs.Substs.{erased_class, erased_variable, erased_array}
 use Rattle.program_maps.specs.Ways.{moved, moved_form}

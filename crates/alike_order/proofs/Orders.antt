@@ -1,5 +1,5 @@
 -- Erased types stand to each other as their classes do.
-use Rattle.std.proofs.Common.{◌≡◌, ℕ, ◌+◌, ◌<◌, ◌≤◌, ◌^◌, List, [], Some, None, inl, inr, ◌↔◌, Bool, true, false, refl, sym, ap, ◌∙◌, subst, length, arith}
+use Rattle.std.proofs.Common.{◌≡◌, ℕ, ◌+◌, ◌<◌, ◌^◌, List, [], None, inl, inr, ◌↔◌, Bool, true, false, refl, sym, ap, ◌∙◌, subst, length, arith}
 use Rattle.std.specs.Prelude.{slice_get, IsTrue}
 use Rattle.std.proofs.lemmas.Bool.{cases_lt}
 use Rattle.std.proofs.lemmas.Option.{slice_get_within, slice_get_past}
@@ -11,17 +11,14 @@ use Rattle.class_world.specs.declared.world.JavaType.TheVariants as ty
 use Rattle.class_world.specs.Types.{object_type, erased, IsReference, of_class, of_array}
 use Rattle.class_world.specs.Subtypes.{Subtype, same, through, declared, object, raw, null, arrays, char_int, int_long, IsDeclaredSuper}
 use Rattle.class_world.specs.Sound.{HaveClassSupers, IsSound, IsOfWorld}
-use Rattle.class_world.proofs.Forms.{primitive_kind, null_kind, class_kind, array_kind, same_primitive, same_element, same_class, primitive_refers_not, null_refers_not}
+use Rattle.class_world.proofs.Forms.{primitive_kind, null_kind, class_kind, array_kind, same_element, same_class, primitive_refers_not, null_refers_not}
 use Rattle.class_world.proofs.Substs.{there_is, erased_primitive, erased_null, erased_class, erased_array}
 use Rattle.class_world.proofs.Orders as orders
 use Rattle.class_world.proofs.Orders.{class_supers, class_parts, bare_over, seen_class}
 use Rattle.class_world.proofs.Lifts as lifts
 use Rattle.type_kinds.proofs.Worlds as worlds
-use Rattle.core_meaning.specs.Code.{Code, IsTold}
 use Rattle.program_maps.specs.declared.numbers.Numbers.{Numbers}
 use Rattle.program_maps.specs.Ways.{goes_to, moved, or_behind}
-use Rattle.program_maps.specs.Pairs.{Pair}
-use Rattle.program_maps.specs.Correspond.{OrderKept}
 use Rattle.alike_order.specs.Order.{IsBelow, IsPairKept, KeepsOrder, KeepsOrderTold}
 use Rattle.alike_order.proofs.Erased as by
 use Rattle.alike_order.proofs.Erased.{IsErased, plain_primitive, plain_null, plain_class, plain_array, is_erased}
