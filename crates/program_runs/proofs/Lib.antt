@@ -1,4 +1,5 @@
 pub mod Constants
 pub mod Found
+pub mod Rows
 pub mod Told
 pub mod Wrong

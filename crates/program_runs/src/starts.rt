@@ -1,11 +1,11 @@
 //! The state before a run.
 
-ghost use Rattle.std.specs.Prelude.{◌≡◌, [], IfOk, map, replicate};
+ghost use Rattle.std.specs.Prelude.{◌≡◌, IfOk, map};
 ghost use Rattle.std.specs.String.{string_bytes};
 ghost use Rattle.core_meaning.specs.Runs as spec;
 ghost use Rattle.core_meaning.specs.Texts.{units_of_bytes};
 ghost use Rattle.running_code.specs.Running.{IsReady, Makes};
-ghost use Rattle.program_runs.specs.Starts.{first_heap};
+ghost use Rattle.program_runs.specs.Starts.{first_heap, no_literals};
 
 use class_world::{JavaType, TypeInfo, World};
 use core_meaning::{Frame, LITERAL_ROWS, Progress, State, Thing, Value};
@@ -110,12 +110,12 @@ fn first_heap(alloc: Global, count: usize) -> Result<Items<Thing>, NoMemory>
     Ok(heap)
 }
 
-// So many rows, with no literal yet.
-fn empty_rows(alloc: Global, count: u32) -> Result<Items<Items<u64>>, NoMemory>
-    ensures { IfOk result (λ r. r ≡ replicate count []) }
+// The rows of literals, of which there are none yet.
+fn no_literals(alloc: Global) -> Result<Items<Items<u64>>, NoMemory>
+    ensures { IfOk result (λ r. r ≡ no_literals) }
 {
     let mut rows = Items::new(alloc);
-    for _ in 0..count {
+    for _ in 0..LITERAL_ROWS {
         rows.push(Items::new(alloc))?;
     }
     Ok(rows)
@@ -135,7 +135,7 @@ pub(crate) fn start(
         left: steps,
         heap: first_heap(alloc, args.len())?,
         texts: argument_texts(alloc, args)?,
-        literals: empty_rows(alloc, LITERAL_ROWS)?,
+        literals: no_literals(alloc)?,
         statics: statics_of(alloc, g.world)?,
         progress: progress_of(alloc, g.world.types.as_slice())?,
         frame: Frame {
