@@ -10,16 +10,17 @@ use Rattle.core_meaning.specs.Code.{Code, classes_of, class_at, class_fields}
 use Rattle.running_code.specs.declared.running.Running.{Running}
 use Rattle.running_code.specs.Running.{IsCode}
 use Rattle.program_maps.specs.declared.numbers.Numbers.{Numbers}
-use Rattle.program_maps.specs.Ways.{goes_to, or_behind, ways}
+use Rattle.program_maps.specs.declared.numbers.Map.{Map}
+use Rattle.program_maps.specs.Ways.{Ways, goes_to, or_behind, ways}
+use Rattle.program_maps.specs.Pairs.{Pair}
 use Rattle.program_maps.specs.Trees.{FieldsAlike}
 use Rattle.program_maps.specs.Correspond.{method_owner}
 use Rattle.alike_laws.proofs.Runs.{corresponding_alike}
 use Rattle.alike_order.specs.Order.{KeepsOrder, KeepsOrderTold}
 use Rattle.alike_lookups.specs.Lookups.{CallsFoundTold}
 use Rattle.alike_tables.specs.Tables.{AreAlikeTold}
-use Rattle.alike_trees.specs.declared.sides.Sides.{Sides}
-use Rattle.alike_trees.specs.Compared.{pair}
 use Rattle.alike_programs.specs.Known.{AreKnown, AreKnownIn}
+use Rattle.alike_programs.proofs.Below.{low_or_high}
 use Rattle.alike_programs.specs.Alike.{AlikeTold, AllFieldsTold, AreBodiesBelow, AreFieldsBelow, KnowsClasses}
 
 -- ---- classes that are not there
@@ -43,15 +44,6 @@ all_known n (f ∷ fs) h = known_more n f.classes (classes_of fs) h.0 (all_known
 class_missing : (g : Running) (c : Code) → IsCode g c → KnowsClasses g → (k : ℕ) → length g.world.now.types ≤ k → class_at c k ≡ None
 class_missing g c is known k low = ap (λ (x : e.Program). find (λ (y : e.Class). y.number == k) (classes_of x.files)) is.core ∙ none_of _ k _ (all_known _ _ known) low
 
-low_or_high : (k n : ℕ) → (k < n) ⊎ (n ≤ k)
-low_or_high k zero = inr (omega arith)
-low_or_high zero (suc n) = inl (omega arith)
-low_or_high (suc k) (suc n) = more (low_or_high k n)
-  where
-    more : (k < n) ⊎ (n ≤ k) → (suc k < suc n) ⊎ (suc n ≤ suc k)
-    more (inl h) = inl (omega (arith, h))
-    more (inr h) = inr (omega (arith, h))
-
 -- a number of no type goes to one of no type
 goes_past : (x : Numbers) (n m : ℕ) → length x.to ≡ n → length x.back ≡ m → (k : ℕ) → n ≤ k → m ≤ goes_to x k
 goes_past x n m to back k low =
@@ -59,29 +51,32 @@ goes_past x n m to back k low =
 
 -- ---- the two programs
 
-module _ (g g' : Running) (x : Sides) (world : x.world.now ≡ g'.world.now) (tables : AreAlikeTold g g' x.map.now) (known : KnowsClasses g) (known' : KnowsClasses g')
-    (order : KeepsOrder x.map.now.types g.world.now g'.world.now) (ordered : KeepsOrderTold x.map.now.types g.world.now g'.world.now)
-    (calls : CallsFoundTold g g' x.map.now x.others.now x.strict) (bodies : AreBodiesBelow x g g' (length g.world.now.methods))
-    (fields : AreFieldsBelow x g g' (length g.world.now.types)) (all : AllFieldsTold x g g') where
+module _ (g g' : Running) (p : Pair) (map : Map) (ways_are : p.ways ≡ ways map) (world : p.world ≡ g'.world.now) (tables : AreAlikeTold g g' map) (known : KnowsClasses g) (known' : KnowsClasses g')
+    (order : KeepsOrder map.types g.world.now g'.world.now) (ordered : KeepsOrderTold map.types g.world.now g'.world.now)
+    (calls : CallsFoundTold g g' map p.others p.strict) (bodies : AreBodiesBelow p g g' (length g.world.now.methods))
+    (fields : AreFieldsBelow p g g' (length g.world.now.types)) (all : AllFieldsTold p g g') where
+  past : (k : ℕ) → length g.world.now.types ≤ k → length g'.world.now.types ≤ p.ways.types k
+  past k high = subst (λ (w : Ways). length g'.world.now.types ≤ w.types k) (sym ways_are) (goes_past map.types _ _ order.to order.back k high)
+
   class_fields_alike : (c c' : Code) → IsCode g c → IsCode g' c' → (k : ℕ)
-      → FieldsAlike (pair x) (class_fields (class_at c k)) (class_fields (class_at c' (goes_to x.map.now.types k)))
+      → FieldsAlike p (class_fields (class_at c k)) (class_fields (class_at c' (p.ways.types k)))
   class_fields_alike c c' is is' k = elim (low_or_high k (length g.world.now.types)) [
     | inl low ↦ fields k low c c' is is'
-    | inr high ↦ rw (class_missing g c is known k high, class_missing g' c' is' known' _ (goes_past x.map.now.types _ _ order.to order.back k high)) tt
+    | inr high ↦ rw (class_missing g c is known k high, class_missing g' c' is' known' (p.ways.types k) (past k high)) tt
   ]
 
-  pub alike_told : AlikeTold g g' (ways x.map.now) x.strict
+  pub alike_told : AlikeTold g g' p.ways p.strict
   alike_told c c' is is' =
-      let told = tables (pair x) refl c c' is is' in
-      corresponding_alike (pair x) c c' (record {
+      let told = tables p ways_are c c' is is' in
+      corresponding_alike p c c' (record {
         world = world ∙ sym is'.world;
         told = is'.told;
         types = told.types;
         fields = told.fields;
         built_in = told.built_in;
         tables = told.tables;
-        order = ordered (pair x) c c' refl is.world is'.world is.told is'.told;
-        calls = calls c c' is is' (pair x) refl refl refl;
+        order = ordered p c c' (ap (λ (w : Ways). w.types) ways_are) is.world is'.world is.told is'.told;
+        calls = calls c c' is is' p ways_are refl refl;
         bodies = λ m k owner. bodies m (method_low c is m k owner) c c' is is' k owner;
         class_fields = class_fields_alike c c' is is';
         all_fields = all c c' is is';

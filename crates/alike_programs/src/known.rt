@@ -1,6 +1,6 @@
 //! The numbers of the classes of a core.
 
-ghost use Rattle.std.specs.Prelude.{◌↔◌, IsTrue};
+ghost use Rattle.std.specs.Prelude.{◌↔◌, IsTrue, map};
 ghost use Rattle.java_core.specs.View.{class_plain, file_plain};
 ghost use Rattle.alike_programs.specs.Known.{AreKnown, AreKnownIn};
 

@@ -43,7 +43,7 @@ pub(crate) fn body_at(
     requires old { IsReady old.now }
     requires new { IsReady new.now }
     requires sides { compared.IsReady sides.now }
-    ensures { OnOk result (BodyTold sides.now old.now new.now method) }
+    ensures { OnOk result (BodyTold (compared.pair sides.now) old.now new.now method) }
 {
     let Some(owner) = method_owner(old, method) else {
         return Ok(());
@@ -70,7 +70,7 @@ fn fields_at(
     requires old { IsReady old.now }
     requires new { IsReady new.now }
     requires sides { compared.IsReady sides.now }
-    ensures { OnOk result (ClassFieldsTold sides.now old.now new.now class) }
+    ensures { OnOk result (ClassFieldsTold (compared.pair sides.now) old.now new.now class) }
 {
     let Some(moved) = gone(&sides.map.types, class) else {
         return Err(Difference::Tables);
@@ -81,15 +81,11 @@ fn fields_at(
     fields_alike(sides, node, before, after).map_err(Difference::Tree)
 }
 
-fn bodies_alike(
-    sides: &Sides<'_>,
-    old: &Running<'_>,
-    new: &Running<'_>,
-) -> Result<(), Difference>
+fn bodies_alike(sides: &Sides<'_>, old: &Running<'_>, new: &Running<'_>) -> Result<(), Difference>
     requires old { IsReady old.now }
     requires new { IsReady new.now }
     requires sides { compared.IsReady sides.now }
-    ensures { OnOk result (AreBodiesBelow sides.now old.now new.now (length old.now.world.now.methods)) }
+    ensures { OnOk result (AreBodiesBelow (compared.pair sides.now) old.now new.now (length old.now.world.now.methods)) }
 {
     let Ok(count) = u32::try_from(old.world.methods.len()) else {
         return Err(Difference::Tables);
@@ -108,7 +104,7 @@ fn class_fields_alike(
     requires old { IsReady old.now }
     requires new { IsReady new.now }
     requires sides { compared.IsReady sides.now }
-    ensures { OnOk result (AreFieldsBelow sides.now old.now new.now (length old.now.world.now.types)) }
+    ensures { OnOk result (AreFieldsBelow (compared.pair sides.now) old.now new.now (length old.now.world.now.types)) }
 {
     let Ok(count) = u32::try_from(old.world.types.len()) else {
         return Err(Difference::Tables);
@@ -127,7 +123,7 @@ fn all_fields_alike(
     requires old { IsReady old.now }
     requires new { IsReady new.now }
     requires sides { compared.IsReady sides.now }
-    ensures { OnOk result (AllFieldsTold sides.now old.now new.now) }
+    ensures { OnOk result (AllFieldsTold (compared.pair sides.now) old.now new.now) }
 {
     let before = all_fields(old);
     let after = all_fields(new);
@@ -143,9 +139,9 @@ pub(crate) fn members_alike(
     requires old { IsReady old.now }
     requires new { IsReady new.now }
     requires sides { compared.IsReady sides.now }
-    ensures bodies { OnOk result (AreBodiesBelow sides.now old.now new.now (length old.now.world.now.methods)) }
-    ensures fields { OnOk result (AreFieldsBelow sides.now old.now new.now (length old.now.world.now.types)) }
-    ensures all { OnOk result (AllFieldsTold sides.now old.now new.now) }
+    ensures bodies { OnOk result (AreBodiesBelow (compared.pair sides.now) old.now new.now (length old.now.world.now.methods)) }
+    ensures fields { OnOk result (AreFieldsBelow (compared.pair sides.now) old.now new.now (length old.now.world.now.types)) }
+    ensures all { OnOk result (AllFieldsTold (compared.pair sides.now) old.now new.now) }
 {
     bodies_alike(sides, old, new)?;
     class_fields_alike(sides, old, new)?;
