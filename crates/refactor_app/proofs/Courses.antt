@@ -46,16 +46,15 @@ use Rattle.program_runs.specs.Told.{IsRun}
 use Rattle.java_tree.specs.declared.fault.Broken.{Broken}
 use Rattle.unchecked_ops.specs.declared.program.Operation.{Operation}
 use Rattle.checker.specs.Checking.{IsWellTyped}
-use Rattle.checked_files.specs.declared.declarations.Declared.{Declared}
-use Rattle.checked_files.proofs.Tables.{trees_long}
-use Rattle.checked_files.specs.Judged.{AreDeclaredAs}
+use Rattle.refactor_app.specs.declared.declarations.Declared.{Declared}
+use Rattle.refactor_app.specs.Judged.{AreDeclaredAs}
 use Rattle.refactor_app.specs.declared.asked.AskedRun.{AskedRun}
 use Rattle.refactor_app.specs.declared.asked.Task.{Task}
 use Rattle.refactor_app.specs.declared.asked.Task.TheVariants as task
 use Rattle.refactor_app.specs.declared.check.CheckAnswer.{CheckAnswer}
 use Rattle.refactor_app.specs.declared.check.CheckAnswer.TheVariants as answer
 use Rattle.refactor_app.specs.Asked.{AreRunWords, AsksRunOf, AsksTask, HasRunWords, HasType, files_of, request_of, task_files, task_steps}
-use Rattle.checked_files.specs.Declarations.{AreDeclared}
+use Rattle.refactor_app.specs.Declarations.{AreDeclared}
 use Rattle.refactor_app.specs.Checked.{Answers, AreAnswered, large_line}
 use Rattle.refactor_app.specs.Decided.{IsChange}
 use Rattle.refactor_app.specs.Refusals.{AsksFew, HasDeclared, IsCheckRefusal, IsLarge, Refusal}
@@ -244,6 +243,13 @@ module _ (words : List (List ℕ)) (q : Request) (text : List ℕ) (names : List
   on_alone w x asks declared world answered is (way.Sequel.writes {made = made} {e = e} c told ends) = way.Course.writes (asked asks declared is made e c) told ends
   on_alone w x asks declared world answered is (way.Sequel.fails {made = made} {e = e} c told rose ends) = way.Course.fails (asked asks declared is made e c) told rose ends
   on_alone w x asks declared world answered is (way.Sequel.no_memory e p none) = way.Course.no_memory e p none
+
+pub trees_long : (names : List (List ℕ)) (first count : ℕ) (texts : List (List ℕ)) (units : List SourceUnit) (new : List (List ℕ))
+    → AreTrees names first count texts units new → length units ≡ length texts
+trees_long names first count [] units new h = ap length h.0
+trees_long names first count (x ∷ xs) [] new h = absurd h
+trees_long names first count (x ∷ xs) (u ∷ us) new (ts, allowed, is, more) =
+    ap suc (trees_long (interned x ts names) (first + size.unit u) (count + length ts) xs us new more)
 
 -- the only one of a list
 only_one : {X : Type 0} (xs : List X) (x : X) → length xs ≡ 1 → x ≡ get_or xs 0 x → xs ≡ x ∷ []

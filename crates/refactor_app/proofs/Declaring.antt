@@ -18,7 +18,7 @@ use Rattle.keep_laws.specs.Kept.{one_file}
 use Rattle.keep_laws.proofs.DeclaredKept.{declarations_keep}
 use Rattle.refactor_app.specs.Words.{Request}
 use Rattle.refactor_app.specs.Program.{Program, IsRead}
-use Rattle.checked_files.specs.Declarations.{AreDeclared}
+use Rattle.refactor_app.specs.Declarations.{AreDeclared}
 use Rattle.refactor_app.specs.Verdicts.{Changes}
 use Rattle.refactor_app.proofs.Changing.{order_of}
 use Rattle.refactor_app.proofs.OneParse.{one_trees}

@@ -7,6 +7,7 @@ pub mod Deciding
 pub mod Declaring
 pub mod Excluding
 pub mod Faults
+pub mod Judging
 pub mod OneDeclared
 pub mod OneOutcome
 pub mod OneParse

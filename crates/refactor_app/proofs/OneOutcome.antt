@@ -14,8 +14,7 @@ use Rattle.command_words.specs.Rules.{IsLowest}
 use Rattle.report_text.specs.Report.{refused, refused_at}
 use Rattle.refactor_app.specs.Words.{Files, Request, inputs, IsAlone, Asks, AsksSteps, Uses, AskOther}
 use Rattle.refactor_app.specs.Verdicts.{Refuses, Changes, IsNotSmall}
-use Rattle.checked_files.specs.Declarations.{AreDeclared, IsBroken}
-use Rattle.refactor_app.specs.Declarations.{broken_line}
+use Rattle.refactor_app.specs.Declarations.{AreDeclared, IsBroken, broken_line}
 use Rattle.refactor_app.specs.Refusals.{most_files, most_steps, AsksFew, AsksGeneral, HasRead, HasParsed, IsAt, IsLarge, Tells, Refusal}
 use Rattle.refactor_app.specs.Refusals as refusal
 use Rattle.refactor_app.specs.Outcomes.{Outcome, Misused, Absent, Refused, Changed, Judged, Ended, ComesTo, IsTreeless, AreTreeless, IsTypeRefusal, IsLargeRefusal, IsOfTypes}

@@ -12,7 +12,7 @@ use Rattle.refactor_app.specs.declared.status.Status.TheVariants as s
 use Rattle.refactor_app.specs.Words.{Files, Request, inputs, IsAlone, Asks, out_name}
 use Rattle.report_text.specs.Report.{usage, edit_report, missing, read_fault, write_fault}
 use Rattle.refactor_app.specs.Verdicts.{Changes}
-use Rattle.checked_files.specs.Declarations.{AreDeclared}
+use Rattle.refactor_app.specs.Declarations.{AreDeclared}
 use Rattle.refactor_app.specs.Refusals.{AsksFew, HasDeclared, Refusal}
 use Rattle.refactor_app.specs.Checking.{Passes}
 use Rattle.refactor_app.specs.Running.{Runs}

@@ -12,9 +12,8 @@ use Rattle.checker.specs.Checking.{IsWellTyped}
 use Rattle.refactor_app.specs.declared.check.CheckAnswer.{CheckAnswer}
 use Rattle.refactor_app.specs.declared.check.CheckAnswer.TheVariants as answer
 use Rattle.refactor_app.specs.Words.{Files}
-use Rattle.checked_files.specs.declared.declarations.Declared.{Declared}
-use Rattle.checked_files.specs.Declarations.{IsOfFiles}
-use Rattle.refactor_app.specs.Declarations.{broken_line}
+use Rattle.refactor_app.specs.declared.declarations.Declared.{Declared}
+use Rattle.refactor_app.specs.Declarations.{IsOfFiles, broken_line}
 use Rattle.refactor_app.specs.Refusals.{IsCheckRefusal}
 use Rattle.refactor_app.specs.Checking.{check_report}
 

@@ -5,6 +5,7 @@ pub mod Verdicts
 pub mod Decided
 pub mod Small
 pub mod Declarations
+pub mod Judged
 pub mod Refusals
 pub mod Checking
 pub mod Checked

@@ -20,8 +20,7 @@ use Rattle.program_runs.specs.Told.{IsRun}
 use Rattle.built_in_types.specs.BuiltIns.{with_words}
 use Rattle.refactor_app.specs.Words.{Files, Request, inputs, IsAlone, Asks, AsksCheck, AsksRun, AsksSteps, Uses, AskOther}
 use Rattle.refactor_app.specs.Verdicts.{IsNotSmall, Refuses}
-use Rattle.checked_files.specs.Declarations.{AreDeclared, IsBroken}
-use Rattle.refactor_app.specs.Declarations.{broken_line}
+use Rattle.refactor_app.specs.Declarations.{AreDeclared, IsBroken, broken_line}
 
 abbrev pub most_files : ℕ
 most_files = 256

@@ -15,8 +15,8 @@ ghost use Rattle.refactor_app.specs.Checked.{Answers};
 ghost use Rattle.refactor_app.specs.Refusals as spec;
 ghost use Rattle.refactor_app.specs.Words.{Files, inputs};
 
+use crate::declarations::Declared;
 use crate::lines::{broken_line, check_report};
-use checked_files::Declared;
 use checker::{CheckFault, check_files};
 use java_core::CoreProgram;
 use java_tree::tree::SourceUnit;

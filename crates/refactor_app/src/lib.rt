@@ -9,6 +9,7 @@ mod asked;
 mod call;
 mod check;
 mod decide;
+mod declarations;
 mod first_names;
 pub mod laws;
 mod lines;

@@ -4,7 +4,7 @@ ghost use Rattle.std.specs.Prelude.{◌≡◌, ◌≤◌, ◌<◌, ◌^◌, leng
 ghost use Rattle.java_tree.specs.Names.{IsFront};
 ghost use Rattle.java_tree.specs.View.{unit_plain};
 ghost use Rattle.built_in_types.specs.BuiltIns.{with_words};
-ghost use Rattle.checked_files.specs.Judged.{AreJudged};
+ghost use Rattle.refactor_app.specs.Judged.{AreJudged};
 
 use class_world::World;
 use decl_table::build;

@@ -11,9 +11,9 @@ use Rattle.class_world.specs.declared.world.World.{World}
 use Rattle.decl_table.specs.Program.{Program, IsRefusal, IsProgramWorld}
 use Rattle.decl_table.specs.Judged.{IsProgram, IsBuilding}
 use Rattle.member_table.specs.Table.{IsTabling}
-use Rattle.checked_files.specs.Declarations.{IsOfFiles}
-use Rattle.checked_files.specs.declared.declarations.Declared.{Declared}
-use Rattle.checked_files.specs.Judged.{AreDeclaredAs, AreJudged}
+use Rattle.refactor_app.specs.Declarations.{IsOfFiles}
+use Rattle.refactor_app.specs.declared.declarations.Declared.{Declared}
+use Rattle.refactor_app.specs.Judged.{AreDeclaredAs, AreJudged}
 
 module _ (users : ℕ) (names new : List (List ℕ)) (units user lib : List SourceUnit) (front : user ≡ take users units) (back : lib ≡ drop users units) where
   of_files : (p : Program) → new ≡ with_words names → IsProgram new (map unit_plain user) (map unit_plain lib) p → IsOfFiles users names (map unit_plain units) p

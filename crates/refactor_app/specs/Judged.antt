@@ -4,8 +4,8 @@ use Rattle.java_tree.specs.Plain.{SourceUnit}
 use Rattle.java_tree.specs.declared.fault.Fault.{Fault}
 use Rattle.java_tree.specs.declared.fault.Fault.TheVariants as fault
 use Rattle.member_table.specs.Table.{HoldsMembers}
-use Rattle.checked_files.specs.declared.declarations.Declared.{Declared}
-use Rattle.checked_files.specs.Declarations.{AreDeclared, IsBroken}
+use Rattle.refactor_app.specs.declared.declarations.Declared.{Declared}
+use Rattle.refactor_app.specs.Declarations.{AreDeclared, IsBroken}
 
 -- no rule is broken, and these are the world and its members
 pub record AreDeclaredAs (users : ℕ) (names : List (List ℕ)) (units : List SourceUnit) (d : Declared) : Type 0 where

@@ -2,10 +2,10 @@ use Rattle.std.proofs.Common.{◌≡◌, ◌∙◌, Result, Err, map, sym, ap, s
 use Rattle.std.proofs.lemmas.Result.{err_from_is_err_and}
 use Rattle.java_tree.specs.View.{unit_plain}
 use Rattle.java_tree.specs.declared.fault.Fault.{Fault}
-use Rattle.checked_files.specs.declared.declarations.Declared.{Declared}
-use Rattle.checked_files.specs.Judged.{AreJudged}
-use Rattle.checked_files.proofs.Judging.{judged_world, judged_fault, judged_members}
-use Rattle.checked_files.proofs.declarations.judge_declarations.Goals as goal
+use Rattle.refactor_app.specs.declared.declarations.Declared.{Declared}
+use Rattle.refactor_app.specs.Judged.{AreJudged}
+use Rattle.refactor_app.proofs.Judging.{judged_world, judged_fault, judged_members}
+use Rattle.refactor_app.proofs.declarations.judge_declarations.Goals as goal
 
 pub returns-in_err-world-clause-judged : goal.returns-in_err-world-clause-judged
 returns-in_err-world-clause-judged c =
