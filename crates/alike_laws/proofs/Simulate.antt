@@ -38,9 +38,9 @@ use Rattle.core_meaning.specs.declared.values.State.{State}
 use Rattle.core_meaning.specs.declared.values.Thing.{Thing}
 use Rattle.core_meaning.specs.declared.values.Thing.TheVariants.{Object, Array}
 use Rattle.core_meaning.specs.State as state
-use Rattle.core_meaning.specs.State.{literals_in, thing_at, field_of, message_of, items_of, element_of, item_count, item_of, in_static, in_slot, with_frame, with_local, with_static, with_field, with_message, with_item, with_array, with_thing, with_text, with_literal, with_progress, with_printed, with_entered}
+use Rattle.core_meaning.specs.State.{thing_at, field_of, message_of, items_of, element_of, item_count, item_of, in_static, in_slot, with_frame, with_local, with_static, with_field, with_message, with_item, with_array, with_thing, with_text, with_literal, with_progress, with_printed, with_entered}
 use Rattle.core_meaning.specs.Numbers.{as_primitive, as_kind, operated, prefixed, stepped, same_reference}
-use Rattle.core_meaning.specs.Texts.{number_units, truth_units, null_units, hex_units, is_text, row_of, length_of, printed_bytes}
+use Rattle.core_meaning.specs.Texts.{number_units, truth_units, null_units, hex_units, is_text, length_of, printed_bytes}
 use Rattle.core_meaning.specs.BuiltIns as built
 use Rattle.core_meaning.specs.BuiltIns.{built_in, object_class, string_class, error_class, to_string, hash_code, get_message}
 use Rattle.core_meaning.specs.Outcome.{Outcome, Gives, Threw, Bound, after, and_then, throws_plain, throws_saying, misfit, with_some, with_reference, unless_null, with_units, with_int, choose, by_truth, with_made, step, leave, and_goes, behind_switch, loop, do_loop, finally, rescued}
@@ -355,7 +355,7 @@ module _ (p : Pair) (c c' : Code) (h : Correspond p c c') where
     -- ---- members of built-in types
 
     literal_follows : (units : List ℕ) (s : State) → Follows p s (literal units s) (λ x. literal units (image φ s x))
-    literal_follows units s = at (find (is_text units s.texts) (literals_in (row_of units) s))
+    literal_follows units s = at (find (is_text units s.texts) s.literals)
       where
         at : (o : Option ℕ) → Follows p s (literal_at o units s) (λ x. literal_at o units (image φ s x))
         at None = gave p (v.Text (length s.texts)) (with_literal units s)

@@ -7,9 +7,9 @@ use Rattle.std.specs.Option.{option_map}
 use Rattle.core_meaning.specs.declared.values.Value.{Value}
 use Rattle.core_meaning.specs.declared.values.Value.TheVariants as v
 use Rattle.core_meaning.specs.declared.values.State.{State}
-use Rattle.core_meaning.specs.State.{message_of, items_of, literals_in, with_text, with_literal, with_message, with_printed}
+use Rattle.core_meaning.specs.State.{message_of, items_of, with_text, with_literal, with_message, with_printed}
 use Rattle.core_meaning.specs.Numbers.{same_reference}
-use Rattle.core_meaning.specs.Texts.{number_units, truth_units, null_units, hex_units, same_units, is_text, hash_of, row_of, difference, length_of, printed_bytes}
+use Rattle.core_meaning.specs.Texts.{number_units, truth_units, null_units, hex_units, same_units, is_text, hash_of, difference, length_of, printed_bytes}
 use Rattle.core_meaning.specs.declared.built_ins.BuiltIn.{BuiltIn}
 use Rattle.core_meaning.specs.declared.built_ins.BuiltIn.TheVariants as b
 use Rattle.core_meaning.specs.BuiltIns.{built_in, to_string, hash_code, get_message, string_index_exception}
@@ -29,7 +29,7 @@ literal_at (Some k) units s = Gives (v.Text k) s
 
 -- The string of a literal: equal literals are one object (JLS 3.10.5).
 abbrev pub literal : List ℕ → State → Outcome Value
-literal units s = literal_at (find (is_text units s.texts) (literals_in (row_of units) s)) units s
+literal units s = literal_at (find (is_text units s.texts) s.literals) units s
 
 -- ---- arguments
 

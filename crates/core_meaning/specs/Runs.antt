@@ -1,5 +1,5 @@
 -- The run of a program: its main method with arguments, within a number of steps; and what is reported of it.
-use Rattle.std.specs.Prelude.{ℕ, zero, suc, ◌+◌, ◌==◌, Bool, false, not, ◌&&◌, List, [], ◌∷◌, ◌++◌, map, flat_map, length, replicate, count_by, Option, Some, None, is_some, slice_get, take, option_and_then, unwrap_or, codes, decimal, if◌then◌else◌}
+use Rattle.std.specs.Prelude.{ℕ, zero, suc, ◌+◌, ◌==◌, Bool, false, not, ◌&&◌, List, [], ◌∷◌, ◌++◌, map, flat_map, length, count_by, Option, Some, None, is_some, slice_get, take, option_and_then, unwrap_or, codes, decimal, if◌then◌else◌}
 use Rattle.std.specs.List.{find}
 use Rattle.std.specs.Option.{option_map}
 use Rattle.std.specs.Str.{bytes_eq}
@@ -21,7 +21,7 @@ use Rattle.core_meaning.specs.declared.values.End.{End}
 use Rattle.core_meaning.specs.declared.values.End.TheVariants as end
 use Rattle.core_meaning.specs.declared.values.State.{State}
 use Rattle.core_meaning.specs.declared.values.Thing.TheVariants.{Object, Array}
-use Rattle.core_meaning.specs.Texts.{units_of_bytes, row_count}
+use Rattle.core_meaning.specs.Texts.{units_of_bytes}
 use Rattle.core_meaning.specs.BuiltIns.{print_stream, string_class, out_field, object_class}
 use Rattle.core_meaning.specs.Outcome.{Outcome, Gives, Threw, Bound, after, and_then, with_some, choose}
 use Rattle.core_meaning.specs.Code.{Code, classes_of, class_fields, default_value, is_constant}
@@ -55,7 +55,7 @@ start c args n = record {
   left = n;
   heap = Object print_stream [] v.Null ∷ Array (ty.Class string_class []) (arguments 0 (length args)) ∷ [];
   texts = map units_of_bytes args;
-  literals = replicate row_count [];
+  literals = [];
   statics = statics_from c.world 0 c.world.fields;
   progress = map first_progress c.world.types;
   frame = entered_with v.Null [];

@@ -1,5 +1,5 @@
 -- What a state holds, and how it changes.
-use Rattle.std.specs.Prelude.{ℕ, zero, suc, ◌==◌, true, if◌then◌else◌, List, [], ◌∷◌, ◌++◌, map, Option, Some, None, slice_get, slice_set, length, option_and_then, unwrap_or}
+use Rattle.std.specs.Prelude.{ℕ, zero, suc, ◌==◌, true, if◌then◌else◌, List, [], ◌∷◌, ◌++◌, map, Option, Some, None, slice_get, slice_set, length, option_and_then}
 use Rattle.std.specs.List.{find}
 use Rattle.std.specs.Option.{option_map}
 use Rattle.class_world.specs.declared.world.JavaType.{JavaType}
@@ -10,7 +10,6 @@ use Rattle.core_meaning.specs.declared.values.Thing.{Thing}
 use Rattle.core_meaning.specs.declared.values.Thing.TheVariants.{Object, Array}
 use Rattle.core_meaning.specs.declared.values.Frame.{Frame}
 use Rattle.core_meaning.specs.declared.values.State.{State}
-use Rattle.core_meaning.specs.Texts.{row_of}
 
 -- ---- fields
 
@@ -84,12 +83,6 @@ item_count r s = option_map length (items_of r s)
 abbrev pub item_of : (r k : ℕ) → State → Option Value
 item_of r k s = option_and_then (λ xs. slice_get xs k) (items_of r s)
 
--- ---- literals
-
--- the strings of literals in a row; none where there is no such row
-abbrev pub literals_in : (row : ℕ) → State → List ℕ
-literals_in k s = unwrap_or (slice_get s.literals k) []
-
 -- ---- parameters and locals
 
 abbrev pub joined : {A : Type 0} → Option (Option A) → Option A
@@ -152,13 +145,9 @@ with_thing x s = record s { heap = s.heap ++ x ∷ [] }
 abbrev pub with_text : List ℕ → State → State
 with_text units s = record s { texts = s.texts ++ units ∷ [] }
 
--- a string is one more in a row of literals; where there is no such row, it stands in none
-abbrev pub with_in_row : (row text : ℕ) → State → State
-with_in_row k x s = record s { literals = slice_set s.literals k (literals_in k s ++ x ∷ []) }
-
--- a new string, which is that of a literal
+-- the same, and it is that of a literal
 abbrev pub with_literal : List ℕ → State → State
-with_literal units s = with_in_row (row_of units) (length s.texts) (with_text units s)
+with_literal units s = record s { texts = s.texts ++ units ∷ []; literals = s.literals ++ length s.texts ∷ [] }
 
 abbrev pub with_progress : ℕ → Progress → State → State
 with_progress c x s = record s { progress = slice_set s.progress c x }

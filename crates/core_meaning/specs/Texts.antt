@@ -1,5 +1,5 @@
 -- Strings as lists of UTF-16 units: what numbers and truth values say, how strings compare, and what is printed of them.
-use Rattle.std.specs.Prelude.{ℕ, ◌==◌, ℤ, pos, negsuc, suc, neg_ℤ, ◌+ℤ◌, ◌-ℤ◌, ◌*ℤ◌, unsigned_abs, ◌%◌, Bool, true, false, List, [], ◌∷◌, flat_map, length, Option, Some, None, slice_get, if◌then◌else◌, codes, chars, decimal, encode_utf8}
+use Rattle.std.specs.Prelude.{ℕ, ◌==◌, ℤ, pos, negsuc, suc, neg_ℤ, ◌+ℤ◌, ◌-ℤ◌, ◌*ℤ◌, Bool, true, false, List, [], ◌∷◌, flat_map, length, Option, Some, None, slice_get, if◌then◌else◌, codes, chars, decimal, encode_utf8}
 use Rattle.std.specs.Int.{w32, cast_unsigned, int_wrap}
 use Rattle.std.specs.Fmt.{digits}
 use Rattle.std.specs.Char.Escape.{encode_utf16}
@@ -40,14 +40,6 @@ hash_from h (c ∷ cs) = hash_from (int_wrap w32 (h *ℤ pos 31 +ℤ pos c)) cs
 
 abbrev pub hash_of : List ℕ → ℤ
 hash_of units = hash_from (pos 0) units
-
--- in how many rows the strings of literals stand
-abbrev pub row_count : ℕ
-row_count = 1024
-
--- the row of a literal, by its hash
-abbrev pub row_of : List ℕ → ℕ
-row_of units = unsigned_abs (hash_of units) % row_count
 
 -- the difference of the first units that differ, or else of the lengths
 abbrev pub difference : List ℕ → List ℕ → ℤ

@@ -5,6 +5,4 @@ pub mod built_ins;
 pub mod values;
 
 pub use built_ins::BuiltIn;
-pub use values::{
-    End, Ending, Frame, Held, LITERAL_ROWS, Made, Progress, State, Thing, Value, Variable,
-};
+pub use values::{End, Ending, Frame, Held, Made, Progress, State, Thing, Value, Variable};

@@ -3,9 +3,6 @@
 use class_world::JavaType;
 use java_tree::Items;
 
-/// In how many rows the strings of literals stand, by their hashes.
-pub const LITERAL_ROWS: u32 = 1024;
-
 /// A value. `Ref` has the number of an object or array, `Text` the identity of a string.
 #[derive(Clone, Copy, Debug, PartialEq, Eq)]
 pub enum Value {
@@ -49,14 +46,14 @@ pub struct Frame {
 /// What there is in a run, and what has happened so far.
 ///
 /// The steps that are left; objects and arrays by their numbers, from 0, which is System.out; the UTF-16 units of strings by their identities, and the identities of
-/// those that literals have, in rows by their hashes; what static fields hold, by the fields' numbers in the world; how far each type of the world is initialised; the
-/// frame; the bytes printed and the methods entered so far; and whether the run has gone wrong: it met what a checked program never meets.
+/// those that literals have; what static fields hold, by the fields' numbers in the world; how far each type of the world is initialised; the frame; the bytes printed
+/// and the methods entered so far; and whether the run has gone wrong: it met what a checked program never meets.
 #[derive(Drop)]
 pub struct State {
     pub left: u64,
     pub heap: Items<Thing>,
     pub texts: Items<Items<u16>>,
-    pub literals: Items<Items<u64>>,
+    pub literals: Items<u64>,
     pub statics: Items<Option<Value>>,
     pub progress: Items<Progress>,
     pub frame: Frame,

@@ -1,17 +1,12 @@
--- The objects and the literals before a run.
-use Rattle.std.specs.Prelude.{ℕ, List, [], ◌∷◌, replicate}
+-- The objects before a run.
+use Rattle.std.specs.Prelude.{ℕ, List, [], ◌∷◌}
 use Rattle.class_world.specs.declared.world.JavaType.TheVariants as ty
 use Rattle.core_meaning.specs.declared.values.Thing.{Thing}
 use Rattle.core_meaning.specs.declared.values.Thing.TheVariants.{Array, Object}
 use Rattle.core_meaning.specs.declared.values.Value.TheVariants as v
 use Rattle.core_meaning.specs.BuiltIns.{print_stream, string_class}
-use Rattle.core_meaning.specs.Texts.{row_count}
 use Rattle.core_meaning.specs.Runs.{arguments}
 
 -- System.out, and an array of so many arguments
 abbrev pub first_heap : (count : ℕ) → List Thing
 first_heap count = Object print_stream [] v.Null ∷ Array (ty.Class string_class []) (arguments 0 count) ∷ []
-
--- The rows of literals before a run. It unfolds only where it is named: written out, a thousand rows are too much for a proof.
-unfoldable pub no_literals : List (List ℕ)
-no_literals = replicate row_count []

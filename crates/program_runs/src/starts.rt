@@ -5,10 +5,10 @@ ghost use Rattle.std.specs.String.{string_bytes};
 ghost use Rattle.core_meaning.specs.Runs as spec;
 ghost use Rattle.core_meaning.specs.Texts.{units_of_bytes};
 ghost use Rattle.running_code.specs.Running.{IsReady, Makes};
-ghost use Rattle.program_runs.specs.Starts.{first_heap, no_literals};
+ghost use Rattle.program_runs.specs.Starts.{first_heap};
 
 use class_world::{JavaType, TypeInfo, World};
-use core_meaning::{Frame, LITERAL_ROWS, Progress, State, Thing, Value};
+use core_meaning::{Frame, Progress, State, Thing, Value};
 use java_strings::units_of_bytes;
 use java_tree::{Items, NoMemory};
 use run_state::arrays::default_value;
@@ -110,17 +110,6 @@ fn first_heap(alloc: Global, count: usize) -> Result<Items<Thing>, NoMemory>
     Ok(heap)
 }
 
-// The rows of literals, of which there are none yet.
-fn no_literals(alloc: Global) -> Result<Items<Items<u64>>, NoMemory>
-    ensures { IfOk result (λ r. r ≡ no_literals) }
-{
-    let mut rows = Items::new(alloc);
-    for _ in 0..LITERAL_ROWS {
-        rows.push(Items::new(alloc))?;
-    }
-    Ok(rows)
-}
-
 /// The state in which a program starts with these arguments, and with so many steps.
 pub(crate) fn start(
     alloc: Global,
@@ -135,7 +124,7 @@ pub(crate) fn start(
         left: steps,
         heap: first_heap(alloc, args.len())?,
         texts: argument_texts(alloc, args)?,
-        literals: no_literals(alloc)?,
+        literals: Items::new(alloc),
         statics: statics_of(alloc, g.world)?,
         progress: progress_of(alloc, g.world.types.as_slice())?,
         frame: Frame {

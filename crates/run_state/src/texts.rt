@@ -1,6 +1,6 @@
 //! Strings: of literals, and of arrays of characters.
 
-ghost use Rattle.std.specs.Prelude.{◌≡◌, option_and_then, IfOk, OnOk};
+ghost use Rattle.std.specs.Prelude.{◌≡◌, option_and_then, IfOk, slice_get};
 ghost use Rattle.core_meaning.specs.State as spec;
 ghost use Rattle.core_meaning.specs.Members.{chars_of as chars_among};
 ghost use Rattle.core_meaning.specs.Texts as texts;
@@ -9,8 +9,7 @@ ghost use Rattle.std.specs.List.{find};
 
 use crate::heap::add_text;
 use crate::reads::{items_of, units_of};
-use core_meaning::{LITERAL_ROWS, State, Value};
-use java_strings::hash_of;
+use core_meaning::{State, Value};
 use java_tree::{Items, NoMemory};
 use std::alloc::Global;
 
@@ -23,10 +22,10 @@ fn is_text(state: &State, units: &[u16], text: u64) -> bool
     }
 }
 
-fn find_text(state: &State, units: &[u16], among: &[u64]) -> Option<u64>
-    ensures { result ≡ find (texts.is_text units.now state.now.texts) among.now }
+fn find_literal(state: &State, units: &[u16]) -> Option<u64>
+    ensures { result ≡ find (texts.is_text units.now state.now.texts) state.now.literals }
 {
-    for text in among {
+    for text in state.literals.as_slice() {
         if is_text(state, units, *text) {
             return Some(*text);
         }
@@ -34,38 +33,15 @@ fn find_text(state: &State, units: &[u16], among: &[u64]) -> Option<u64>
     None
 }
 
-fn row_of(units: &[u16]) -> usize
-    ensures { result ≡ texts.row_of units.now }
-{
-    (hash_of(units).unsigned_abs() % LITERAL_ROWS) as usize
-}
-
-fn find_literal(state: &State, row: usize, units: &[u16]) -> Option<u64>
-    ensures { result ≡ find (texts.is_text units.now state.now.texts) (spec.literals_in row state.now) }
-{
-    let among = state.literals.get(row)?;
-    find_text(state, units, among.as_slice())
-}
-
-fn add_to_row(state: &mut State, row: usize, text: u64) -> Result<(), NoMemory>
-    ensures { OnOk result (state.new ≡ spec.with_in_row row text state.old) }
-{
-    if row < state.literals.len() {
-        state.literals.at_mut(row).push(text)?;
-    }
-    Ok(())
-}
-
 /// The string of a literal: equal literals are one object (JLS 3.10.5).
 pub fn literal(alloc: Global, state: &mut State, units: &[u16]) -> Result<u64, NoMemory>
     ensures { IsLiteral result state.new units.now state.old }
 {
-    let row = row_of(units);
-    if let Some(text) = find_literal(state, row, units) {
+    if let Some(text) = find_literal(state, units) {
         return Ok(text);
     }
     let text = add_text(state, Items::from_slice(alloc, units)?)?;
-    add_to_row(state, row, text)?;
+    state.literals.push(text)?;
     Ok(text)
 }
 
