@@ -1,2 +1,4 @@
+pub mod Forms
 pub mod Heights
+pub mod Lists
 pub mod Walks

@@ -20,7 +20,7 @@ use crate::ones::{
     in_unary, in_widening,
 };
 use crate::pairs::{Cond, Two, in_assign, in_binary, in_compound, in_cond, in_index, in_logic};
-use crate::sides::{Sides, Unlike};
+use crate::sides::{Sides, Unlike, check};
 use crate::types::method_alike;
 use java_core::{CoreExpr, CoreForm};
 use java_tree::tree::Node;
@@ -34,10 +34,10 @@ pub fn expr_alike(sides: &Sides<'_>, old: &CoreExpr, new: &CoreExpr) -> Result<(
 {
     let node = old.node;
     match &old.form {
-        CoreForm::Int(x) => int_alike(node, *x, new),
-        CoreForm::Long(x) => long_alike(node, *x, new),
+        CoreForm::Int(x) => int_alike(node, x, new),
+        CoreForm::Long(x) => long_alike(node, x, new),
         CoreForm::Char(x) => char_alike(node, *x, new),
-        CoreForm::Text(units) => text_alike(node, units.as_slice(), new),
+        CoreForm::Text(units) => text_alike(node, units, new),
         CoreForm::Truth(x) => truth_alike(node, *x, new),
         CoreForm::Null => null_alike(node, new),
         CoreForm::This => this_alike(node, new),
@@ -65,27 +65,23 @@ pub fn expr_alike(sides: &Sides<'_>, old: &CoreExpr, new: &CoreExpr) -> Result<(
         CoreForm::InstanceOf { of, written } => {
             expr_alike(sides, of.get(), in_instance_of(sides, node, written, new)?)
         }
-        CoreForm::Index { of, at } => {
-            two_alike(sides, of.get(), at.get(), in_index(node, new)?)
-        }
+        CoreForm::Index { of, at } => two_alike(sides, of, at, in_index(node, new)?),
         CoreForm::Binary {
             op,
             kind,
             left,
             right,
-        } => two_alike(sides, left.get(), right.get(), in_binary(node, *op, *kind, new)?),
+        } => two_alike(sides, left, right, in_binary(node, *op, *kind, new)?),
         CoreForm::Logic { both, left, right } => {
-            two_alike(sides, left.get(), right.get(), in_logic(node, *both, new)?)
+            two_alike(sides, left, right, in_logic(node, *both, new)?)
         }
-        CoreForm::Assign { to, from } => {
-            two_alike(sides, to.get(), from.get(), in_assign(node, new)?)
-        }
+        CoreForm::Assign { to, from } => two_alike(sides, to, from, in_assign(node, new)?),
         CoreForm::Compound { op, kind, to, from } => {
             let inside = in_compound(node, &old.ty, *op, *kind, new)?;
-            two_alike(sides, to.get(), from.get(), inside)
+            two_alike(sides, to, from, inside)
         }
         CoreForm::Cond { test, yes, no } => {
-            cond_alike(sides, test.get(), yes.get(), no.get(), in_cond(node, new)?)
+            cond_alike(sides, test, yes, no, in_cond(node, new)?)
         }
         CoreForm::StaticField { of, field, .. } => {
             maybe_alike(sides, node, of, in_static_field(sides, node, *field, new)?)
@@ -98,7 +94,7 @@ pub fn expr_alike(sides: &Sides<'_>, old: &CoreExpr, new: &CoreExpr) -> Result<(
         }
         CoreForm::Call {
             of, method, args, ..
-        } => call_alike(sides, node, of.get(), *method, args, in_call(node, *method, new)?),
+        } => call_alike(sides, node, of, *method, args, in_call(node, *method, new)?),
         CoreForm::SuperCall { method, args } => {
             exprs_alike(sides, node, args, in_super_call(sides, node, *method, new)?)
         }
@@ -122,31 +118,31 @@ pub fn expr_alike(sides: &Sides<'_>, old: &CoreExpr, new: &CoreExpr) -> Result<(
 #[cycle(expr_alike)]
 fn two_alike(
     sides: &Sides<'_>,
-    first: &CoreExpr,
-    second: &CoreExpr,
+    first: &Boxed<CoreExpr>,
+    second: &Boxed<CoreExpr>,
     new: Two<'_>,
 ) -> Result<(), Unlike>
     requires { IsReady sides.now }
     ensures { (result ≡ Ok tt) ↔ (ExprAlike (pair sides.now) (plain first.now) (plain new.entry.first.now) × ExprAlike (pair sides.now) (plain second.now) (plain new.entry.second.now)) }
 {
-    expr_alike(sides, first, new.first)?;
-    expr_alike(sides, second, new.second)
+    expr_alike(sides, first.get(), new.first)?;
+    expr_alike(sides, second.get(), new.second)
 }
 
 #[cycle(expr_alike)]
 fn cond_alike(
     sides: &Sides<'_>,
-    test: &CoreExpr,
-    yes: &CoreExpr,
-    no: &CoreExpr,
+    test: &Boxed<CoreExpr>,
+    yes: &Boxed<CoreExpr>,
+    no: &Boxed<CoreExpr>,
     new: Cond<'_>,
 ) -> Result<(), Unlike>
     requires { IsReady sides.now }
     ensures { (result ≡ Ok tt) ↔ (ExprAlike (pair sides.now) (plain test.now) (plain new.entry.test.now) × ExprAlike (pair sides.now) (plain yes.now) (plain new.entry.yes.now) × ExprAlike (pair sides.now) (plain no.now) (plain new.entry.no.now)) }
 {
-    expr_alike(sides, test, new.test)?;
-    expr_alike(sides, yes, new.yes)?;
-    expr_alike(sides, no, new.no)
+    expr_alike(sides, test.get(), new.test)?;
+    expr_alike(sides, yes.get(), new.yes)?;
+    expr_alike(sides, no.get(), new.no)
 }
 
 /// The method comes last, so that it alone differs where it is told.
@@ -154,7 +150,7 @@ fn cond_alike(
 fn call_alike(
     sides: &Sides<'_>,
     node: Node,
-    of: &CoreExpr,
+    of: &Boxed<CoreExpr>,
     method: u32,
     args: &Items<CoreExpr>,
     new: Call<'_>,
@@ -162,7 +158,7 @@ fn call_alike(
     requires { IsReady sides.now }
     ensures { (result ≡ Ok tt) ↔ (CallAlike (pair sides.now) method new.entry.method × ExprAlike (pair sides.now) (plain of.now) (plain new.entry.of.now) × ExprsAlike (pair sides.now) (plains args.now) (plains new.entry.args.now)) }
 {
-    expr_alike(sides, of, new.of)?;
+    expr_alike(sides, of.get(), new.of)?;
     exprs_alike(sides, node, args, new.args)?;
     method_alike(sides, node, method, new.method)
 }
@@ -221,11 +217,7 @@ pub(crate) fn exprs_alike(
         };
         expr_alike(sides, x, y)?;
     }
-    if new.len() == old.len() {
-        Ok(())
-    } else {
-        Err(Unlike::Node(node))
-    }
+    check(node, new.len() == old.len())
 }
 
 /// The same of an expression that may be missing.

@@ -7,23 +7,24 @@ ghost use Rattle.alike_trees.specs.Inside.{TellsLeaf};
 
 use crate::sides::{Sides, Unlike, check};
 use java_core::{CoreExpr, CoreForm};
+use java_tree::Items;
 use java_tree::tree::Node;
 use program_maps::goes;
 
-pub(crate) fn int_alike(node: Node, old: i32, new: &CoreExpr) -> Result<(), Unlike>
-    ensures { (p : Pair) → TellsLeaf p (e.Int old) new.now result }
+pub(crate) fn int_alike(node: Node, old: &i32, new: &CoreExpr) -> Result<(), Unlike>
+    ensures { (p : Pair) → TellsLeaf p (e.Int old.now) new.now result }
 {
     match &new.form {
-        CoreForm::Int(x) => check(node, *x == old),
+        CoreForm::Int(x) => check(node, *x == *old),
         _ => Err(Unlike::Node(node)),
     }
 }
 
-pub(crate) fn long_alike(node: Node, old: i64, new: &CoreExpr) -> Result<(), Unlike>
-    ensures { (p : Pair) → TellsLeaf p (e.Long old) new.now result }
+pub(crate) fn long_alike(node: Node, old: &i64, new: &CoreExpr) -> Result<(), Unlike>
+    ensures { (p : Pair) → TellsLeaf p (e.Long old.now) new.now result }
 {
     match &new.form {
-        CoreForm::Long(x) => check(node, *x == old),
+        CoreForm::Long(x) => check(node, *x == *old),
         _ => Err(Unlike::Node(node)),
     }
 }
@@ -37,11 +38,11 @@ pub(crate) fn char_alike(node: Node, old: u16, new: &CoreExpr) -> Result<(), Unl
     }
 }
 
-pub(crate) fn text_alike(node: Node, old: &[u16], new: &CoreExpr) -> Result<(), Unlike>
+pub(crate) fn text_alike(node: Node, old: &Items<u16>, new: &CoreExpr) -> Result<(), Unlike>
     ensures { (p : Pair) → TellsLeaf p (e.Text old.now) new.now result }
 {
     match &new.form {
-        CoreForm::Text(units) => check(node, units.as_slice() == old),
+        CoreForm::Text(units) => check(node, units.as_slice() == old.as_slice()),
         _ => Err(Unlike::Node(node)),
     }
 }

@@ -33,7 +33,7 @@ pub fn stmt_alike(sides: &Sides<'_>, old: &CoreStmt, new: &CoreStmt) -> Result<(
         CoreStmtForm::Empty => empty_alike(node, new),
         CoreStmtForm::Value(x) => value_alike(sides, node, x, new),
         CoreStmtForm::If { test, yes, no } => {
-            branches_alike(sides, node, yes.get(), no, in_if(sides, node, test, new)?)
+            branches_alike(sides, node, yes, no, in_if(sides, node, test, new)?)
         }
         CoreStmtForm::While { test, body } => {
             stmt_alike(sides, body.get(), in_while(sides, node, test, new)?)
@@ -48,7 +48,7 @@ pub fn stmt_alike(sides: &Sides<'_>, old: &CoreStmt, new: &CoreStmt) -> Result<(
             body,
         } => {
             let inside = in_for(sides, node, test, step, new)?;
-            for_alike(sides, node, init, body.get(), inside)
+            for_alike(sides, node, init, body, inside)
         }
         CoreStmtForm::ForEach {
             var,
@@ -77,7 +77,7 @@ pub fn stmt_alike(sides: &Sides<'_>, old: &CoreStmt, new: &CoreStmt) -> Result<(
             body,
             catches,
             last,
-        } => try_alike(sides, node, body.get(), catches, last, in_try(node, new)?),
+        } => try_alike(sides, node, body, catches, last, in_try(node, new)?),
         CoreStmtForm::ThisCall { constructor, args } => {
             this_call_alike(sides, node, *constructor, args, new)
         }
@@ -91,14 +91,14 @@ pub fn stmt_alike(sides: &Sides<'_>, old: &CoreStmt, new: &CoreStmt) -> Result<(
 fn branches_alike(
     sides: &Sides<'_>,
     node: Node,
-    yes: &CoreStmt,
+    yes: &Boxed<CoreStmt>,
     no: &Option<Boxed<CoreStmt>>,
     new: Branches<'_>,
 ) -> Result<(), Unlike>
     requires { IsReady sides.now }
     ensures { (result ≡ Ok tt) ↔ (StmtAlike (pair sides.now) (stmt_plain yes.now) (stmt_plain new.entry.yes.now) × MaybeStmtAlike (pair sides.now) (stmt_maybe (option_map stmt_plain no.now)) (stmt_maybe (option_map stmt_plain new.entry.no.now))) }
 {
-    stmt_alike(sides, yes, new.yes)?;
+    stmt_alike(sides, yes.get(), new.yes)?;
     maybe_stmt_alike(sides, node, no, new.no)
 }
 
@@ -107,21 +107,21 @@ fn for_alike(
     sides: &Sides<'_>,
     node: Node,
     init: &Items<CoreStmt>,
-    body: &CoreStmt,
+    body: &Boxed<CoreStmt>,
     new: For<'_>,
 ) -> Result<(), Unlike>
     requires { IsReady sides.now }
     ensures { (result ≡ Ok tt) ↔ (StmtsAlike (pair sides.now) (stmts_plain init.now) (stmts_plain new.entry.init.now) × StmtAlike (pair sides.now) (stmt_plain body.now) (stmt_plain new.entry.body.now)) }
 {
     stmts_alike(sides, node, init, new.init)?;
-    stmt_alike(sides, body, new.body)
+    stmt_alike(sides, body.get(), new.body)
 }
 
 #[cycle(stmt_alike)]
 fn try_alike(
     sides: &Sides<'_>,
     node: Node,
-    body: &CoreStmt,
+    body: &Boxed<CoreStmt>,
     catches: &Items<CoreCatch>,
     last: &Option<Boxed<CoreStmt>>,
     new: Try<'_>,
@@ -129,7 +129,7 @@ fn try_alike(
     requires { IsReady sides.now }
     ensures { (result ≡ Ok tt) ↔ (StmtAlike (pair sides.now) (stmt_plain body.now) (stmt_plain new.entry.body.now) × CatchesAlike (pair sides.now) (catch_row (map catch_plain catches.now)) (catch_row (map catch_plain new.entry.catches.now)) × MaybeStmtAlike (pair sides.now) (stmt_maybe (option_map stmt_plain last.now)) (stmt_maybe (option_map stmt_plain new.entry.last.now))) }
 {
-    stmt_alike(sides, body, new.body)?;
+    stmt_alike(sides, body.get(), new.body)?;
     catches_alike(sides, node, catches, new.catches)?;
     maybe_stmt_alike(sides, node, last, new.last)
 }
@@ -200,7 +200,7 @@ fn group_alike(sides: &Sides<'_>, old: &CoreGroup, new: &CoreGroup) -> Result<()
     requires { IsReady sides.now }
     ensures { (result ≡ Ok tt) ↔ GroupAlike (pair sides.now) (group_plain old.now) (group_plain new.now) }
 {
-    check(old.node, new.labels.as_slice() == old.labels.as_slice())?;
+    check(old.node, are_same_labels(&old.labels, &new.labels))?;
     stmts_alike(sides, old.node, &old.body, &new.body)
 }
 
@@ -230,6 +230,12 @@ fn catch_alike(sides: &Sides<'_>, old: &CoreCatch, new: &CoreCatch) -> Result<()
 {
     check(old.node, is_param_alike(sides, &old.param, &new.param))?;
     stmt_alike(sides, old.body.get(), new.body.get())
+}
+
+fn are_same_labels(old: &Items<Option<i32>>, new: &Items<Option<i32>>) -> bool
+    ensures { IsTrue result ↔ (new.now ≡ old.now) }
+{
+    new.as_slice() == old.as_slice()
 }
 
 /// Whether parameters of catches are alike: they take the same place, and catch the same exceptions.
