@@ -4,7 +4,7 @@ ghost use Rattle.std.specs.Prelude.{◌≡◌, ◌↔◌, IsTrue, IfOk, IfSome};
 ghost use Rattle.running_code.specs.Running.{IsReady};
 ghost use Rattle.program_maps.specs.Ways.{ways};
 ghost use Rattle.program_maps.specs.Correspond.{moved_walk};
-ghost use Rattle.alike_tables.specs.Tables.{AreAlikeTold, AreCounts, Both, TellsWhether, IsDepthKept, IsMapFit, IsRestKept, IsWalkKept, IsWhole};
+ghost use Rattle.alike_tables.specs.Tables.{AreAlikeTold, AreCounts, Both, TellsWhether, IsCountKept, IsMapFit, IsRestKept, IsWalkKept, IsWhole};
 
 use crate::built_ins::is_built_in_kept;
 use crate::members::{are_fields_kept, are_methods_kept};
@@ -13,7 +13,6 @@ use crate::types::are_types_kept;
 use class_world::Walk;
 use java_tree::NoMemory;
 use program_maps::{Map, goes, is_one_to_one};
-use program_runs::most_initialised;
 use running_code::Running;
 use std::alloc::Global;
 
@@ -51,17 +50,11 @@ fn is_walk_kept(old: &Running<'_>, new: &Running<'_>, map: &Map) -> bool
     }
 }
 
-/// Whether as many types can be initialised, and 64 bits hold the number.
-fn is_depth_kept(old: &Running<'_>, new: &Running<'_>) -> bool
-    ensures { IsTrue result → Both old.now new.now IsDepthKept }
+/// Whether both programs have as many types: a run's depth is the number of its steps and of the types.
+fn is_count_kept(old: &Running<'_>, new: &Running<'_>) -> bool
+    ensures { TellsWhether old.now new.now result IsCountKept }
 {
-    match most_initialised(old.world) {
-        None => false,
-        Some(before) => match most_initialised(new.world) {
-            None => false,
-            Some(after) => before == after,
-        },
-    }
+    new.world.types.len() == old.world.types.len()
 }
 
 /// How many types, methods and fields a map has a place for.
@@ -115,7 +108,7 @@ fn is_rest_kept(old: &Running<'_>, new: &Running<'_>, map: &Map, counts: Counts)
     if !is_walk_kept(old, new, map) {
         return false;
     }
-    if !is_depth_kept(old, new) {
+    if !is_count_kept(old, new) {
         return false;
     }
     if !are_methods_kept(old, new, map, counts.methods) {

@@ -1,4 +1,4 @@
 mod Bytes
-pub mod Comparing
+mod Comparing
 mod Digits
 mod Reading
