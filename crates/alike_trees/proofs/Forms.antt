@@ -17,9 +17,10 @@ use Rattle.java_core.specs.declared.stmt.CoreStmtForm.TheFolds.{map-CoreStmtForm
 use Rattle.java_core.specs.Plain as e
 use Rattle.java_core.specs.View.{at_form, form_plain, maybe, plain, plains, stmt_form, stmt_form_plain, stmt_maybe, stmt_plain, group_plain, catch_plain, catch_row}
 use Rattle.java_core.proofs.Views.{form_out, plain_at, stmt_out}
-use Rattle.program_maps.specs.Pairs.{Pair}
 use Rattle.program_maps.specs.Trees.{ExprAlike, StmtAlike}
+use Rattle.alike_trees.specs.declared.sides.Sides.{Sides}
 use Rattle.alike_trees.specs.declared.sides.Unlike.{Unlike}
+use Rattle.alike_trees.specs.Compared.{pair}
 
 -- ---- plain forms
 
@@ -58,26 +59,48 @@ tried n y cs (Some z) = refl
 
 -- ---- alike
 
-module _ {A : Type 0} (P : A → Type 0) where
+module _ {A : Type 0} (P : A → Type 0) (x w : A) (is : x ≡ w) where
   -- P holds of x where it holds of what x is
-  pub leaf : {Q : Type 0} (x w : A) → x ≡ w → Q ↔ P w → Q ↔ P x
-  leaf x w is told = (λ q. subst P (sym is) (told.0 q), λ h. told.1 (subst P is h))
+  so : {Q : Type 0} → Q ↔ P w → Q ↔ P x
+  so told = (λ q. subst P (sym is) (told.0 q), λ h. told.1 (subst P is h))
 
-  pub through : {Q R : Type 0} (x w : A) → x ≡ w → Q ↔ R → R ↔ P w → Q ↔ P x
-  through x w is told gives = leaf x w is (λ q. gives.0 (told.0 q), λ h. told.1 (gives.1 h))
+  behind : {Q R : Type 0} → Q ↔ R → R ↔ P w → Q ↔ P x
+  behind told gives = so (λ q. gives.0 (told.0 q), λ h. told.1 (gives.1 h))
 
   -- and it does not, where there is no part
-  pub refused : {Q : Unlike → Type 0} (x w : A) (r : Result Unit Unlike) → (u : Unlike) × (r ≡ Err u) × Q u → x ≡ w → ⊥ ↔ P w → (r ≡ Ok tt) ↔ P x
-  refused x w r exit is gives = (λ q. absurd (cc (q, exit.1)), λ h. absurd (gives.1 (subst P is h)))
+  none : {Q : Unlike → Type 0} (r : Result Unit Unlike) → (u : Unlike) × (r ≡ Err u) × Q u → ⊥ ↔ P w → (r ≡ Ok tt) ↔ P x
+  none r exit gives = (λ q. absurd (cc (q, exit.1)), λ h. absurd (gives.1 (subst P is h)))
 
--- a form of one part, which is looked at as a'
-pub one_part : {Q : Type 0} (p : Pair) (x : CoreExpr) (y b : e.Expr) (make : e.Expr → e.Form) (a a' : CoreExpr) → plain x ≡ e.At x.node x.ty (make (plain a)) → a' ≡ a
-    → Q ↔ ExprAlike p (plain a') b → ((n : Node) (z : e.Expr) → ExprAlike p z b ↔ ExprAlike p (e.At n x.ty (make z)) y) → Q ↔ ExprAlike p (plain x) y
-one_part p x y b make a a' is same told gives =
-    through (λ z. ExprAlike p z y) (plain x) (e.At x.node x.ty (make (plain a'))) (is ∙ ap (λ z. e.At x.node x.ty (make (plain z))) (sym same)) told (gives x.node (plain a'))
+module _ (s : Sides) (x y : CoreExpr) where
+  pub leaf : {Q : Type 0} {w : e.Expr} → plain x ≡ w → Q ↔ ExprAlike (pair s) w (plain y) → Q ↔ ExprAlike (pair s) (plain x) (plain y)
+  leaf {w = w} is told = so (λ z. ExprAlike (pair s) z (plain y)) (plain x) w is told
 
--- a statement with one in it
-pub one_body : {Q : Type 0} (p : Pair) (x : CoreStmt) (y b : e.Stmt) (make : Node → e.Stmt → e.Stmt) (a a' : CoreStmt) → stmt_plain x ≡ make x.node (stmt_plain a) → a' ≡ a
-    → Q ↔ StmtAlike p (stmt_plain a') b → ((n : Node) (z : e.Stmt) → StmtAlike p z b ↔ StmtAlike p (make n z) y) → Q ↔ StmtAlike p (stmt_plain x) y
-one_body p x y b make a a' is same told gives =
-    through (λ z. StmtAlike p z y) (stmt_plain x) (make x.node (stmt_plain a')) (is ∙ ap (λ z. make x.node (stmt_plain z)) (sym same)) told (gives x.node (stmt_plain a'))
+  pub through : {Q R : Type 0} {w : e.Expr} → plain x ≡ w → Q ↔ R → R ↔ ExprAlike (pair s) w (plain y) → Q ↔ ExprAlike (pair s) (plain x) (plain y)
+  through {w = w} is told gives = behind (λ z. ExprAlike (pair s) z (plain y)) (plain x) w is told gives
+
+  pub refused : {Q : Unlike → Type 0} {w : e.Expr} (r : Result Unit Unlike) → (u : Unlike) × (r ≡ Err u) × Q u → plain x ≡ w → ⊥ ↔ ExprAlike (pair s) w (plain y)
+      → (r ≡ Ok tt) ↔ ExprAlike (pair s) (plain x) (plain y)
+  refused {w = w} r exit is gives = none (λ z. ExprAlike (pair s) z (plain y)) (plain x) w is r exit gives
+
+  -- a form of one part, which is looked at as a'
+  pub one_part : {Q : Type 0} {b : e.Expr} (make : e.Expr → e.Form) (a a' : CoreExpr) → plain x ≡ e.At x.node x.ty (make (plain a)) → a' ≡ a
+      → Q ↔ ExprAlike (pair s) (plain a') b → ((n : Node) (z : e.Expr) → ExprAlike (pair s) z b ↔ ExprAlike (pair s) (e.At n x.ty (make z)) (plain y))
+      → Q ↔ ExprAlike (pair s) (plain x) (plain y)
+  one_part make a a' is same told gives = through (is ∙ ap (λ z. e.At x.node x.ty (make (plain z))) (sym same)) told (gives x.node (plain a'))
+
+module _ (s : Sides) (x y : CoreStmt) where
+  pub stmt_leaf : {Q : Type 0} {w : e.Stmt} → stmt_plain x ≡ w → Q ↔ StmtAlike (pair s) w (stmt_plain y) → Q ↔ StmtAlike (pair s) (stmt_plain x) (stmt_plain y)
+  stmt_leaf {w = w} is told = so (λ z. StmtAlike (pair s) z (stmt_plain y)) (stmt_plain x) w is told
+
+  pub stmt_through : {Q R : Type 0} {w : e.Stmt} → stmt_plain x ≡ w → Q ↔ R → R ↔ StmtAlike (pair s) w (stmt_plain y) → Q ↔ StmtAlike (pair s) (stmt_plain x) (stmt_plain y)
+  stmt_through {w = w} is told gives = behind (λ z. StmtAlike (pair s) z (stmt_plain y)) (stmt_plain x) w is told gives
+
+  pub stmt_refused : {Q : Unlike → Type 0} {w : e.Stmt} (r : Result Unit Unlike) → (u : Unlike) × (r ≡ Err u) × Q u → stmt_plain x ≡ w → ⊥ ↔ StmtAlike (pair s) w (stmt_plain y)
+      → (r ≡ Ok tt) ↔ StmtAlike (pair s) (stmt_plain x) (stmt_plain y)
+  stmt_refused {w = w} r exit is gives = none (λ z. StmtAlike (pair s) z (stmt_plain y)) (stmt_plain x) w is r exit gives
+
+  -- a statement with one in it, which is looked at as a'
+  pub one_body : {Q : Type 0} {b : e.Stmt} (make : Node → e.Stmt → e.Stmt) (a a' : CoreStmt) → stmt_plain x ≡ make x.node (stmt_plain a) → a' ≡ a
+      → Q ↔ StmtAlike (pair s) (stmt_plain a') b → ((n : Node) (z : e.Stmt) → StmtAlike (pair s) z b ↔ StmtAlike (pair s) (make n z) (stmt_plain y))
+      → Q ↔ StmtAlike (pair s) (stmt_plain x) (stmt_plain y)
+  one_body make a a' is same told gives = stmt_through (is ∙ ap (λ z. make x.node (stmt_plain z)) (sym same)) told (gives x.node (stmt_plain a'))

@@ -164,7 +164,10 @@ pub(crate) fn in_for_each<'a>(
         } => {
             check(node, is_item_alike(old.var, var))?;
             check(node, is_array_as(&old.over.ty, &over.ty))?;
-            check(node, is_implied_alike(sides, old.implied, *implied, old.item, item))?;
+            check(
+                node,
+                is_implied_alike(sides, old.implied, *implied, old.item, item),
+            )?;
             expr_alike(sides, old.over, over)?;
             Ok(body.get())
         }

@@ -38,7 +38,10 @@ pub(crate) fn in_call(node: Node, old: u32, new: &CoreExpr) -> Result<Call<'_>, 
 {
     match &new.form {
         CoreForm::Call {
-            of, method, args, ..
+            of,
+            method,
+            args,
+            ..
         } => Ok(Call {
             of: of.get(),
             method: *method,
@@ -93,7 +96,10 @@ pub(crate) fn in_static_call<'a>(
 {
     match &new.form {
         CoreForm::StaticCall {
-            of, method, args, ..
+            of,
+            method,
+            args,
+            ..
         } => {
             check(node, goes(&sides.map.methods, old, *method))?;
             Ok(StaticCall { of, args })
@@ -117,7 +123,10 @@ pub(crate) fn in_new<'a>(
             constructor,
             args,
         } => {
-            check(node, is_class_moved(&sides.map.types, &old_type.ty, &written.ty))?;
+            check(
+                node,
+                is_class_moved(&sides.map.types, &old_type.ty, &written.ty),
+            )?;
             check(node, goes(&sides.map.methods, old, *constructor))?;
             Ok(args)
         }

@@ -16,8 +16,8 @@ use crate::leaves::{
     this_alike, truth_alike,
 };
 use crate::ones::{
-    in_cast, in_field, in_implied_cast, in_instance_of, in_length, in_new_filled, in_paren, in_step,
-    in_unary, in_widening,
+    in_cast, in_field, in_implied_cast, in_instance_of, in_length, in_new_filled, in_paren,
+    in_step, in_unary, in_widening,
 };
 use crate::pairs::{Cond, Two, in_assign, in_binary, in_compound, in_cond, in_index, in_logic};
 use crate::sides::{Sides, Unlike, check};
@@ -87,13 +87,19 @@ pub fn expr_alike(sides: &Sides<'_>, old: &CoreExpr, new: &CoreExpr) -> Result<(
             maybe_alike(sides, node, of, in_static_field(sides, node, *field, new)?)
         }
         CoreForm::StaticCall {
-            of, method, args, ..
+            of,
+            method,
+            args,
+            ..
         } => {
             let inside = in_static_call(sides, node, *method, new)?;
             static_call_alike(sides, node, of, args, inside)
         }
         CoreForm::Call {
-            of, method, args, ..
+            of,
+            method,
+            args,
+            ..
         } => call_alike(sides, node, of, *method, args, in_call(node, *method, new)?),
         CoreForm::SuperCall { method, args } => {
             exprs_alike(sides, node, args, in_super_call(sides, node, *method, new)?)

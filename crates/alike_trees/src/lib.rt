@@ -2,8 +2,10 @@
 #![tactic(auto)]
 
 mod blocks;
+mod bodies;
 mod calls;
 mod exprs;
+mod labels;
 mod leaves;
 mod ones;
 mod pairs;
@@ -12,6 +14,7 @@ mod simple;
 mod stmts;
 mod types;
 
+pub use bodies::{body_alike, field_alike, fields_alike};
 pub use exprs::expr_alike;
 pub use sides::{Sides, Unlike};
 pub use stmts::stmt_alike;

@@ -24,7 +24,11 @@ pub(crate) fn in_paren(node: Node, new: &CoreExpr) -> Result<&CoreExpr, Unlike>
     }
 }
 
-pub(crate) fn in_widening<'a>(node: Node, ty: &JavaType, new: &'a CoreExpr) -> Result<&'a CoreExpr, Unlike>
+pub(crate) fn in_widening<'a>(
+    node: Node,
+    ty: &JavaType,
+    new: &'a CoreExpr,
+) -> Result<&'a CoreExpr, Unlike>
     ensures { (p : Pair) → GivesOne p ty.now e.Widen new.now result (λ y. plain y.now) }
 {
     match &new.form {
@@ -36,7 +40,12 @@ pub(crate) fn in_widening<'a>(node: Node, ty: &JavaType, new: &'a CoreExpr) -> R
     }
 }
 
-pub(crate) fn in_implied_cast<'a>(sides: &Sides<'_>, node: Node, ty: &JavaType, new: &'a CoreExpr) -> Result<&'a CoreExpr, Unlike>
+pub(crate) fn in_implied_cast<'a>(
+    sides: &Sides<'_>,
+    node: Node,
+    ty: &JavaType,
+    new: &'a CoreExpr,
+) -> Result<&'a CoreExpr, Unlike>
     requires { IsReady sides.now }
     ensures { GivesOne (pair sides.now) ty.now e.Implied new.now result (λ y. plain y.now) }
 {
@@ -49,7 +58,12 @@ pub(crate) fn in_implied_cast<'a>(sides: &Sides<'_>, node: Node, ty: &JavaType, 
     }
 }
 
-pub(crate) fn in_field<'a>(sides: &Sides<'_>, node: Node, old: u32, new: &'a CoreExpr) -> Result<&'a CoreExpr, Unlike>
+pub(crate) fn in_field<'a>(
+    sides: &Sides<'_>,
+    node: Node,
+    old: u32,
+    new: &'a CoreExpr,
+) -> Result<&'a CoreExpr, Unlike>
     ensures { (t : JavaType) (simple : Bool) → GivesOne (pair sides.now) t (λ x. e.Field x simple old) new.now result (λ y. plain y.now) }
 {
     match &new.form {
@@ -91,7 +105,12 @@ pub(crate) fn in_unary(node: Node, old: UnOp, new: &CoreExpr) -> Result<&CoreExp
     }
 }
 
-pub(crate) fn in_step(node: Node, old_up: bool, old_before: bool, new: &CoreExpr) -> Result<&CoreExpr, Unlike>
+pub(crate) fn in_step(
+    node: Node,
+    old_up: bool,
+    old_before: bool,
+    new: &CoreExpr,
+) -> Result<&CoreExpr, Unlike>
     ensures { (p : Pair) (t : JavaType) → GivesOne p t (e.Step old_up old_before) new.now result (λ y. plain y.now) }
 {
     match &new.form {
@@ -104,24 +123,40 @@ pub(crate) fn in_step(node: Node, old_up: bool, old_before: bool, new: &CoreExpr
 }
 
 /// A written cast: only the erasure of its type counts.
-pub(crate) fn in_cast<'a>(sides: &Sides<'_>, node: Node, old: &CoreType, new: &'a CoreExpr) -> Result<&'a CoreExpr, Unlike>
+pub(crate) fn in_cast<'a>(
+    sides: &Sides<'_>,
+    node: Node,
+    old: &CoreType,
+    new: &'a CoreExpr,
+) -> Result<&'a CoreExpr, Unlike>
     ensures { (t : JavaType) (close : ℕ) → GivesOne (pair sides.now) t (e.Cast (written old.now) close) new.now result (λ y. plain y.now) }
 {
     match &new.form {
         CoreForm::Cast { written, of, .. } => {
-            check(node, is_moved_by_erasure(&sides.map.types, &old.ty, &written.ty))?;
+            check(
+                node,
+                is_moved_by_erasure(&sides.map.types, &old.ty, &written.ty),
+            )?;
             Ok(of.get())
         }
         _ => Err(Unlike::Node(node)),
     }
 }
 
-pub(crate) fn in_instance_of<'a>(sides: &Sides<'_>, node: Node, old: &CoreType, new: &'a CoreExpr) -> Result<&'a CoreExpr, Unlike>
+pub(crate) fn in_instance_of<'a>(
+    sides: &Sides<'_>,
+    node: Node,
+    old: &CoreType,
+    new: &'a CoreExpr,
+) -> Result<&'a CoreExpr, Unlike>
     ensures { (t : JavaType) → GivesOne (pair sides.now) t (λ x. e.InstanceOf x (written old.now)) new.now result (λ y. plain y.now) }
 {
     match &new.form {
         CoreForm::InstanceOf { of, written } => {
-            check(node, is_moved_by_erasure(&sides.map.types, &old.ty, &written.ty))?;
+            check(
+                node,
+                is_moved_by_erasure(&sides.map.types, &old.ty, &written.ty),
+            )?;
             Ok(of.get())
         }
         _ => Err(Unlike::Node(node)),

@@ -10,6 +10,7 @@ use crate::blocks::{
     Branches, Each, For, Try, in_block, in_do, in_for, in_for_each, in_if, in_switch, in_try,
     in_while,
 };
+use crate::labels::are_same_labels;
 use crate::sides::{Sides, Unlike, check};
 use crate::simple::{
     break_alike, continue_alike, empty_alike, locals_alike, return_alike, super_call_alike,
@@ -200,7 +201,10 @@ fn group_alike(sides: &Sides<'_>, old: &CoreGroup, new: &CoreGroup) -> Result<()
     requires { IsReady sides.now }
     ensures { (result ≡ Ok tt) ↔ GroupAlike (pair sides.now) (group_plain old.now) (group_plain new.now) }
 {
-    check(old.node, are_same_labels(&old.labels, &new.labels))?;
+    check(
+        old.node,
+        are_same_labels(old.labels.as_slice(), new.labels.as_slice()),
+    )?;
     stmts_alike(sides, old.node, &old.body, &new.body)
 }
 
@@ -230,12 +234,6 @@ fn catch_alike(sides: &Sides<'_>, old: &CoreCatch, new: &CoreCatch) -> Result<()
 {
     check(old.node, is_param_alike(sides, &old.param, &new.param))?;
     stmt_alike(sides, old.body.get(), new.body.get())
-}
-
-fn are_same_labels(old: &Items<Option<i32>>, new: &Items<Option<i32>>) -> bool
-    ensures { IsTrue result ↔ (new.now ≡ old.now) }
-{
-    new.as_slice() == old.as_slice()
 }
 
 /// Whether parameters of catches are alike: they take the same place, and catch the same exceptions.

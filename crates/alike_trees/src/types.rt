@@ -123,12 +123,7 @@ fn is_other(others: &Items<Option<u32>>, old: u32, new: u32) -> bool
 }
 
 /// Whether one instance method may be called in the place of another.
-pub(crate) fn method_alike(
-    sides: &Sides<'_>,
-    node: Node,
-    old: u32,
-    new: u32,
-) -> Result<(), Unlike>
+pub(crate) fn method_alike(sides: &Sides<'_>, node: Node, old: u32, new: u32) -> Result<(), Unlike>
     ensures { (result ≡ Ok tt) ↔ CallAlike (pair sides.now) old new }
 {
     if is_call_alike(sides, old, new) {
