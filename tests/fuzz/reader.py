@@ -86,7 +86,7 @@ def answer(words, files, folders):
         program = read_program(texts[0])
         require_target(program, request.target)
     except NotSmall as reason:
-        return refused("N2", "-", str(reason))
+        return Answer("change", None, None, {}, "no small program, %s: changes of others are not read here" % reason)
     text = texts[0]
     refusal = first_refusal(program, text, request)
     if refusal is not None:

@@ -1,5 +1,5 @@
 -- From the start of a run to what is reported of it.
-use Rattle.std.proofs.Common.{◌≡◌, ℕ, ◌+◌, Bool, true, false, inl, inr, List, [], ◌∷◌, map, length, Option, Some, None, refl, sym, ap, ◌∙◌, subst, arith}
+use Rattle.std.proofs.Common.{◌≡◌, ℕ, ◌+◌, Bool, true, false, inl, inr, List, [], ◌∷◌, map, Option, Some, None, refl, sym, ap, ◌∙◌, subst, arith}
 use Rattle.std.specs.Prelude.{unwrap_or}
 use Rattle.std.specs.Option.{option_map}
 use Rattle.class_world.specs.declared.world.JavaType.TheVariants as ty
@@ -14,7 +14,7 @@ use Rattle.core_meaning.specs.Outcome.{Outcome, Gives, Threw, Bound, after, and_
 use Rattle.core_meaning.specs.Code.{Code, is_constant}
 use Rattle.core_meaning.specs.Classes.{class_of}
 use Rattle.core_meaning.specs.Calls.{enter, initialise, place_at}
-use Rattle.core_meaning.specs.Runs.{Result, start, all_fields, constants_given, main_of, run_within, run, end_of, result_of}
+use Rattle.core_meaning.specs.Runs.{Result, start, all_fields, constants_given, main_of, most_initialised, run_within, run, end_of, result_of}
 use Rattle.program_maps.specs.Pairs.{Pair}
 use Rattle.program_maps.specs.Trees.{FieldsAlike}
 use Rattle.program_maps.specs.Correspond.{Correspond}
@@ -102,4 +102,4 @@ module _ (p : Pair) (c c' : Code) (h : Correspond p c c') where
 -- programs that correspond behave alike
 pub corresponding_alike : CorrespondingAlike
 corresponding_alike p c c' h k m main args n w =
-    runs_same p c c' h (n + length c.world.types) (n + length c'.world.types) k n args (ap (λ d. n + d) h.tables.count) w
+    runs_same p c c' h (n + most_initialised c.world) (n + most_initialised c'.world) k n args (ap (λ d. n + d) h.tables.initialised) w

@@ -24,7 +24,7 @@ use Rattle.alike_order.proofs.Erased as by
 use Rattle.alike_order.proofs.Erased.{IsErased, plain_primitive, plain_null, plain_class, plain_array, is_erased}
 
 -- a class of the world, without arguments
-bare_known : (w : World) (k : ℕ) → k < length w.types → IsOfWorld w (ty.Class k [])
+pub bare_known : (w : World) (k : ℕ) → k < length w.types → IsOfWorld w (ty.Class k [])
 bare_known w k lt = let at = there_is w.types k lt in (0, bare_over w 0 k at.0 at.1)
 
 known_bare : (w : World) (k : ℕ) (t : JavaType) (xs : List JavaType) → t ≡ ty.Class k xs → IsOfWorld w t → k < length w.types

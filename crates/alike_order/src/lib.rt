@@ -2,5 +2,6 @@
 #![tactic(auto)]
 
 mod order;
+mod supers;
 
 pub use order::order_kept;

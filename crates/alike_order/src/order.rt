@@ -1,4 +1,4 @@
-//! The order of erased types, compared class by class.
+//! The order of erased types, by the supertypes that classes declare or class by class.
 
 ghost use Rattle.std.specs.Prelude.{◌≡◌, ◌↔◌, ℕ, ◌<◌, [], length, IsTrue};
 ghost use Rattle.class_world.specs.Sound.{IsSound};
@@ -6,6 +6,7 @@ ghost use Rattle.class_world.specs.declared.world.JavaType.TheVariants as ty;
 ghost use Rattle.program_maps.specs.Ways.{goes_to};
 ghost use Rattle.alike_order.specs.Order.{IsBelow, IsPairKept, KeepsOrder, KeepsOrderTold};
 
+use crate::supers::{image, keep_all_supers};
 use class_world::{JavaType, World};
 use java_tree::Items;
 use program_maps::{Numbers, goes};
@@ -20,14 +21,6 @@ fn is_class_below(alloc: Global, w: &World, class: u32, above: u32) -> bool
     let low = JavaType::Class(class, Items::new(alloc));
     let high = JavaType::Class(above, Items::new(alloc));
     is_below(w, &low, &high)
-}
-
-/// Where a number of the list goes.
-fn image(types: &Numbers, class: u32) -> u32
-    requires { class < length types.now.to }
-    ensures { result ≡ goes_to types.now class }
-{
-    types.to.as_slice()[class as usize]
 }
 
 /// Whether one class is below another in both worlds or in none.
@@ -87,7 +80,20 @@ fn are_classes_kept(alloc: Global, old: &World, new: &World, types: &Numbers, co
     true
 }
 
-/// Whether erased types (JLS 4.6) are subtypes of each other in the new world as in the old one, where the numbers of their classes are led by a map that has a place for each type of both worlds. Two look-ups for each pair of classes; takes no memory.
+/// Whether all classes stand to each other as before. They do where each declares the supertypes that it had; otherwise the pairs tell.
+fn are_pairs_kept(alloc: Global, old: &World, new: &World, types: &Numbers, count: u32) -> bool
+    requires old { IsSound old.now }
+    requires new { IsSound new.now }
+    requires count { count ≡ length types.now.to }
+    requires to { length types.now.to ≡ length old.now.types }
+    requires back { length types.now.back ≡ length new.now.types }
+    requires top { 0 ≡ goes_to types.now 0 }
+    ensures { IsTrue result ↔ ((k g : ℕ) → k < count → g < count → IsPairKept old.now new.now (goes_to types.now) k g) }
+{
+    keep_all_supers(old, new, types, count) || are_classes_kept(alloc, old, new, types, count)
+}
+
+/// Whether erased types (JLS 4.6) are subtypes of each other in the new world as in the old one, where the numbers of their classes are led by a map that has a place for each type of both worlds. A look at each declared supertype, and only where these differ two look-ups for each pair of classes; takes no memory.
 pub fn order_kept(alloc: Global, old: &World, new: &World, types: &Numbers) -> bool
     requires old { IsSound old.now }
     requires new { IsSound new.now }
@@ -100,5 +106,5 @@ pub fn order_kept(alloc: Global, old: &World, new: &World, types: &Numbers) -> b
     if types.to.len() != old.types.len() || types.back.len() != new.types.len() {
         return false;
     }
-    goes(types, 0, 0) && are_classes_kept(alloc, old, new, types, count)
+    goes(types, 0, 0) && are_pairs_kept(alloc, old, new, types, count)
 }

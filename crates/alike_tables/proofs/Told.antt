@@ -76,7 +76,7 @@ tables m p c c' same rest types =
       statics = λ f. (field_of f).static;
       progress = λ k. (type_at k).progress;
       mains = λ k. (type_at k).main;
-      count = rest.depth;
+      initialised = rest.depth;
     }
 
 -- so for two running programs

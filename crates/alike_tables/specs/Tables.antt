@@ -11,7 +11,7 @@ use Rattle.core_meaning.specs.declared.values.Thing.{Thing}
 use Rattle.core_meaning.specs.declared.values.Thing.TheVariants.{Object, Array}
 use Rattle.core_meaning.specs.Code.{Code, superclass, is_instance_field, is_constant, new_object}
 use Rattle.core_meaning.specs.Classes.{full_name}
-use Rattle.core_meaning.specs.Runs.{statics_from, first_static, first_progress, main_of}
+use Rattle.core_meaning.specs.Runs.{statics_from, first_static, first_progress, main_of, most_initialised}
 use Rattle.running_code.specs.declared.running.Running.{Running}
 use Rattle.running_code.specs.Running.{IsCode}
 use Rattle.program_maps.specs.declared.numbers.Numbers.{Numbers}
@@ -99,7 +99,7 @@ abbrev pub IsWalkKept : Ways → (c c' : Code) → Type 0
 IsWalkKept w c c' = c'.world.walk ≡ option_map (moved_walk w) c.world.walk
 
 abbrev pub IsCountKept : (c c' : Code) → Type 0
-IsCountKept c c' = length c'.world.types ≡ length c.world.types
+IsCountKept c c' = most_initialised c'.world ≡ most_initialised c.world
 
 -- ---- what is built in
 

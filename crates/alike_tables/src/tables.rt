@@ -13,6 +13,7 @@ use crate::types::are_types_kept;
 use class_world::Walk;
 use java_tree::NoMemory;
 use program_maps::{Map, goes, is_one_to_one};
+use program_runs::most_initialised;
 use running_code::Running;
 use std::alloc::Global;
 
@@ -50,11 +51,17 @@ fn is_walk_kept(old: &Running<'_>, new: &Running<'_>, map: &Map) -> bool
     }
 }
 
-/// Whether both programs have as many types: a run's depth is the number of its steps and of the types.
+/// Whether both programs have as many types that can be initialised: a run's depth is the number of its steps and of these.
 fn is_count_kept(old: &Running<'_>, new: &Running<'_>) -> bool
-    ensures { TellsWhether old.now new.now result IsCountKept }
+    ensures { IsTrue result → Both old.now new.now IsCountKept }
 {
-    new.world.types.len() == old.world.types.len()
+    let Some(before) = most_initialised(old.world) else {
+        return false;
+    };
+    match most_initialised(new.world) {
+        Some(after) => after == before,
+        None => false,
+    }
 }
 
 /// How many types, methods and fields a map has a place for.

@@ -39,14 +39,14 @@ fn file(alloc: Global, name: &str, text: &str) -> Result<(String, Vec<u8>), NoMe
     Ok((name, bytes))
 }
 
-/// The first example and another file, with room for so many bytes of one more, and calls that fail.
+/// The first example and another file, with room for so many bytes of two more, and calls that fail.
 fn files(alloc: Global, room: usize, fail: &[u32]) -> Result<MemFiles, NoMemory> {
     let mut list = Vec::new(alloc);
     list.push(file(alloc, "A.java", FIRST)?)?;
     list.push(file(alloc, "C.java", "class C { }\n")?)?;
     let mut files = MemFiles::new(alloc, list, Vec::from_slice(alloc, fail)?)?;
     if room > 0 {
-        files.reserve(1, room)?;
+        files.reserve(2, room)?;
     }
     Ok(files)
 }
@@ -105,7 +105,7 @@ const TWO_FILES: &str = "generalize out A.java 5 5 A -- A.java C.java";
 
 const THREE_FILES: &str = "generalize out A.java 5 5 A -- A.java No.java C.java";
 
-static COURSES: [Course; 16] = [
+static COURSES: [Course; 17] = [
     WHOLE,
     Course {
         fail: &[1],
@@ -159,9 +159,14 @@ static COURSES: [Course; 16] = [
     // Files are read one after the other.
     Course {
         line: TWO_FILES,
-        status: Status::Refused,
-        report: "refused N2 -\n",
-        made: None,
+        ..WHOLE
+    },
+    // The second of the new files fails: the first is whole.
+    Course {
+        line: TWO_FILES,
+        fail: &[4],
+        status: Status::WriteFault,
+        report: "write fault out/C.java\n",
         ..WHOLE
     },
     Course {

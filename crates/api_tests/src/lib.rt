@@ -7,5 +7,3 @@ mod calls;
 mod literals;
 #[cfg(test)]
 mod memory;
-#[cfg(test)]
-mod runs;

@@ -8,3 +8,4 @@ mod words;
 
 pub use check::{CheckedProgram, check_files};
 pub use fault::CheckFault;
+pub use words::{java_names, length_name};

@@ -6,6 +6,7 @@ use Rattle.command_words.specs.declared.request.Request.{Request}
 use Rattle.command_words.specs.declared.request.Reading.{Reading}
 use Rattle.command_words.specs.declared.request.Reading.TheVariants.{Usage, Asked}
 use Rattle.command_words.specs.declared.request.Generalize.{Generalize}
+use Rattle.command_words.specs.declared.request.PlaceWords.{PlaceWords}
 use Rattle.command_words.specs.Names.{IsNumber}
 use Rattle.command_words.specs.Table.{word_of, takes_files, Parts, parts_of}
 use Rattle.command_words.specs.Rules.{Meets, IsLowest}
@@ -43,5 +44,13 @@ pub record AreNamed (own : List (List ℕ)) (g : Generalize) : Type 0 where
   pub line : List ℕ
   pub col : List ℕ
   pub are : own ≡ g.out.now ∷ g.file.now ∷ line ∷ col ∷ g.ty.now ∷ []
+  pub at_line : IsNumber line g.line × (0 < g.line)
+  pub at_col : IsNumber col g.col × (0 < g.col)
+
+-- the words FILE LINE COL
+pub record ArePlaceWords (own : List (List ℕ)) (g : PlaceWords) : Type 0 where
+  pub line : List ℕ
+  pub col : List ℕ
+  pub are : own ≡ g.file.now ∷ line ∷ col ∷ []
   pub at_line : IsNumber line g.line × (0 < g.line)
   pub at_col : IsNumber col g.col × (0 < g.col)

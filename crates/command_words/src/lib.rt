@@ -8,5 +8,5 @@ mod table;
 mod word_set;
 
 pub use names::{is_identifier, number};
-pub use request::{Generalize, Reading, Request, read_words};
+pub use request::{Generalize, PlaceWords, Reading, Request, read_words};
 pub use table::Command;

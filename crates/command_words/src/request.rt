@@ -5,7 +5,7 @@ ghost use Rattle.std.specs.String.{string_bytes};
 ghost use Rattle.command_words.specs.Rules.{HasShape, HasNumbers, NamesCommand};
 ghost use Rattle.command_words.specs.Table.{word_of};
 ghost use Rattle.command_words.specs.declared.table.Command.TheVariants as commands;
-ghost use Rattle.command_words.specs.Asked.{Asks, AreNamed, MeetsReading, parts};
+ghost use Rattle.command_words.specs.Asked.{ArePlaceWords, Asks, AreNamed, MeetsReading, parts};
 
 use crate::names::place_number;
 use crate::rules::lowest_broken;
@@ -37,6 +37,14 @@ pub struct Generalize<'a> {
     pub line: u64,
     pub col: u64,
     pub ty: &'a str,
+}
+
+/// The own words of `allowed`, by name.
+#[derive(Clone, Copy)]
+pub struct PlaceWords<'a> {
+    pub file: &'a str,
+    pub line: u64,
+    pub col: u64,
 }
 
 /// Reads the words of a command line.
@@ -82,6 +90,21 @@ impl<'a> Request<'a> {
                 line: place_number(line.as_str())?,
                 col: place_number(col.as_str())?,
                 ty: ty.as_str(),
+            }),
+            _ => None,
+        }
+    }
+
+    /// The own words of `allowed` by name, where the request has the words and the numbers are such.
+    pub fn allowed(&self) -> Option<PlaceWords<'a>>
+        ensures some { IfSome result (λ g. (self.now.command ≡ commands.Allowed) × ArePlaceWords (map string_bytes self.now.own.now) g) }
+        ensures none { IfNone result (self.now.command ≡ commands.Allowed → HasShape commands.Allowed (parts self.now) → HasNumbers commands.Allowed (parts self.now) → ⊥) }
+    {
+        match (self.command, self.own) {
+            (Command::Allowed, [file, line, col]) => Some(PlaceWords {
+                file: file.as_str(),
+                line: place_number(line.as_str())?,
+                col: place_number(col.as_str())?,
             }),
             _ => None,
         }

@@ -1,5 +1,5 @@
 -- The run of a program: its main method with arguments, within a number of steps; and what is reported of it.
-use Rattle.std.specs.Prelude.{ℕ, zero, suc, ◌+◌, ◌==◌, Bool, false, not, ◌&&◌, List, [], ◌∷◌, ◌++◌, map, flat_map, length, Option, Some, None, is_some, slice_get, take, option_and_then, unwrap_or, codes, decimal, if◌then◌else◌}
+use Rattle.std.specs.Prelude.{ℕ, zero, suc, ◌+◌, ◌==◌, Bool, false, not, ◌&&◌, List, [], ◌∷◌, ◌++◌, map, flat_map, length, count_by, Option, Some, None, is_some, slice_get, take, option_and_then, unwrap_or, codes, decimal, if◌then◌else◌}
 use Rattle.std.specs.List.{find}
 use Rattle.std.specs.Option.{option_map}
 use Rattle.std.specs.Str.{bytes_eq}
@@ -128,9 +128,17 @@ run_within c d k args n =
     and_then (constants_given (place_at c d k) (all_fields c) (start c args n)) (λ u s. and_then (initialise c d k s) (λ u s.
     with_some (main_of c k) s (λ m. enter c d m v.Null (v.Ref 1 ∷ []) s)))
 
--- A depth that is enough: no more calls are open than steps are taken, and no more initialisations than there are types.
+abbrev pub is_class : TypeInfo → Bool
+is_class i = not i.interface
+
+-- At least as many as the types that can be initialised: classes, and interfaces with a field. An interface without one is never initialised and counts for nothing
+-- here, so programs that differ in such interfaces alone run in the same depth.
+abbrev pub most_initialised : World → ℕ
+most_initialised w = count_by is_class w.types + length w.fields
+
+-- A depth that is enough: no more calls are open than steps are taken, and no more initialisations than there are types that can be initialised.
 abbrev pub run : Code → (class : ℕ) → (args : List (List ℕ)) → (n : ℕ) → Outcome Value
-run c k args n = run_within c (n + length c.world.types) k args n
+run c k args n = run_within c (n + most_initialised c.world) k args n
 
 abbrev pub end_of : Outcome Value → End
 end_of (Gives a s) = end.Normal

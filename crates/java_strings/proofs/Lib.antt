@@ -1,4 +1,4 @@
 mod Bytes
-mod Comparing
+pub mod Comparing
 mod Digits
 mod Reading

@@ -17,8 +17,10 @@ jgen: refactorings of Java programs, proved to keep what the programs do
 
   jgen generalize OUT FILE LINE COL TYPE -- FILES [+ LIBRARY FILES]
       Changes the declared type that begins at LINE and COL of FILE, one of the
-      FILES, into TYPE, and writes OUT/FILE. LINE and COL count from 1, COL bytes.
-      FILE is not changed. Today a change is made in small programs of one file.
+      FILES, into TYPE, and writes each of the FILES as OUT/FILE, changed or not.
+      LINE and COL count from 1, COL bytes. The FILES stay as they are.
+  jgen allowed FILE LINE COL -- FILES [+ LIBRARY FILES]
+      Lists the types into which generalize may change the type at that place.
   jgen check -- FILES [+ LIBRARY FILES]
       Checks that the files are a program that breaks no rule, and names its
       unchecked operations.
@@ -26,14 +28,16 @@ jgen: refactorings of Java programs, proved to keep what the programs do
       Checks the files as above, and runs the main method of CLASS, a class of the
       FILES, with ARGS. A step is an entry of a method or constructor, or a turn of
       a loop; the run ends where N steps, 100000000 at most, are not enough.
-  Other commands (allowed, extract-interface, pull-up, infer-type-arguments,
-  workload) are read and refused as N1, not built yet.
+  Other commands (extract-interface, pull-up, infer-type-arguments, workload)
+  are read and refused as N1, not built yet.
   jgen --help
   jgen --version
 
 What is reported, a line each:
   edit FILE FROM TO BYTES TEXT   the bytes FROM to before TO of FILE become TEXT
   done K edits                   the last line of a change
+  type NAME                      a type to which a place may go
+  done K types                   the last line of these
   unchecked PLACE                an unchecked operation of a program
   checked K files                the last line of a check, library files counted
   printed K                      the first line of a run, which printed K bytes;

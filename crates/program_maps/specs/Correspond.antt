@@ -1,5 +1,5 @@
 -- What two codes have to agree in so that they run alike.
-use Rattle.std.specs.Prelude.{◌≡◌, ℕ, ◌<◌, ◌⊎◌, false, List, map, length, Option, Some, None, slice_get}
+use Rattle.std.specs.Prelude.{◌≡◌, ℕ, ◌<◌, ◌⊎◌, false, List, map, Option, Some, None, slice_get}
 use Rattle.std.specs.Option.{option_map}
 use Rattle.class_world.specs.declared.world.JavaType.{JavaType}
 use Rattle.class_world.specs.declared.world.MethodInfo.{MethodInfo}
@@ -13,7 +13,7 @@ use Rattle.core_meaning.specs.State.{held}
 use Rattle.core_meaning.specs.BuiltIns.{built_in, to_string, hash_code, get_message, out_field}
 use Rattle.core_meaning.specs.Code.{Code, IsTold, body_of, class_at, class_fields, superclass, is_instance_field, is_constant, new_object}
 use Rattle.core_meaning.specs.Classes.{full_name}
-use Rattle.core_meaning.specs.Runs.{statics_from, first_progress, all_fields, main_of}
+use Rattle.core_meaning.specs.Runs.{statics_from, first_progress, all_fields, main_of, most_initialised}
 use Rattle.program_maps.specs.Ways.{Ways, IsOneToOne, moved}
 use Rattle.program_maps.specs.Pairs.{Pair, CallAlike}
 use Rattle.program_maps.specs.Trees.{OptBodyAlike, FieldsAlike}
@@ -68,8 +68,8 @@ pub record TablesAlike (p : Pair) (c c' : Code) : Type 0 where
   pub statics : (f : ℕ) → slice_get (statics_from c'.world 0 c'.world.fields) (p.ways.fields f) ≡ slice_get (statics_from c.world 0 c.world.fields) f
   pub progress : (k : ℕ) → slice_get (map first_progress c'.world.types) (p.ways.types k) ≡ slice_get (map first_progress c.world.types) k
   pub mains : (k : ℕ) → main_of c' (p.ways.types k) ≡ option_map p.ways.methods (main_of c k)
-  -- a run's depth is the number of its steps and of the types
-  pub count : length c'.world.types ≡ length c.world.types
+  -- a run's depth is the number of its steps and of the types that can be initialised
+  pub initialised : most_initialised c'.world ≡ most_initialised c.world
 
 -- a call finds the same method on objects of every class
 abbrev pub CallsFound : Pair → (c c' : Code) → Type 0

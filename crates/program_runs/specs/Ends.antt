@@ -1,12 +1,10 @@
 -- How a run on its way ends, and what comes behind a step of it.
 use Rattle.std.specs.Prelude.{◌≡◌, ℕ, List, ◌++◌, map, Option, Some, None, Result, IfOk, OnOk}
-use Rattle.std.specs.Option.{option_map}
-use Rattle.java_core.specs.declared.stmt.CoreStmt.{CoreStmt}
 use Rattle.java_core.specs.declared.stmt.CoreCatch.{CoreCatch}
-use Rattle.java_core.specs.View.{catch_plain, catch_row, stmt_maybe, stmt_plain}
+use Rattle.java_core.specs.View.{catch_plain, catch_row}
 use Rattle.core_meaning.specs.declared.values.Ending.{Ending}
 use Rattle.core_meaning.specs.Variables.{Place}
-use Rattle.core_meaning.specs.Statements.{caught, maybe_stmt}
+use Rattle.core_meaning.specs.Statements.{caught}
 use Rattle.run_frames.specs.declared.focus.Answer.TheVariants as an
 use Rattle.core_meaning.specs.declared.values.State.{State}
 use Rattle.core_meaning.specs.Outcome.{Outcome, Gives, Threw, Bound}
@@ -66,9 +64,6 @@ Adds g r old new more = (c : Code) → IsCode g c → OnOk r (new ≡ old ++ mor
 abbrev pub ending_in : Answer → Option Ending
 ending_in (an.Ending e) = Some e
 ending_in _ = None
-
-abbrev pub last_block : Option CoreStmt → Place → State → Outcome Ending
-last_block z p = maybe_stmt p (stmt_maybe (option_map stmt_plain z))
 
 abbrev pub caught_by : List CoreCatch → Place → (thrown : ℕ) → State → Outcome Ending
 caught_by cs p k s = caught p k (catch_row (map catch_plain cs)) s

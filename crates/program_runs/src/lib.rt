@@ -32,6 +32,7 @@ use java_tree::{Names, NoMemory};
 use member_table::Members;
 use run_state::reads::class_of;
 use running_code::{Running, prepare};
+pub use runs::most_initialised;
 use std::alloc::Global;
 
 /// Object, by number.

@@ -8,7 +8,8 @@ ghost use Rattle.run_frames.specs.Runs.{Leads};
 ghost use Rattle.core_meaning.specs.State.{with_frame};
 ghost use Rattle.running_code.specs.Running.{IsReady};
 ghost use Rattle.run_values.specs.Does.{Does};
-ghost use Rattle.program_runs.specs.Ends.{Resumes, Stops, caught_by, ending_in, last_block};
+ghost use Rattle.run_statements.specs.Parts.{last_block};
+ghost use Rattle.program_runs.specs.Ends.{Resumes, Stops, caught_by, ending_in};
 
 use crate::answers::{
     give_ending, give_nothing, give_truth, give_units, give_value, give_values, give_variable,

@@ -1,6 +1,6 @@
 //! The run of a class.
 
-ghost use Rattle.std.specs.Prelude.{◌≡◌, [], ◌∷◌, Some, map};
+ghost use Rattle.std.specs.Prelude.{◌≡◌, ◌+◌, [], ◌∷◌, Some, IfSome, count_by, map};
 ghost use Rattle.std.specs.String.{string_bytes};
 ghost use Rattle.java_core.specs.View.{field_plain, plain};
 ghost use Rattle.core_meaning.specs.declared.values.Value.TheVariants as v;
@@ -15,6 +15,7 @@ ghost use Rattle.program_runs.specs.Pieces.{Pieces, Runs, begun};
 use crate::ended::Ended;
 use crate::starts::start;
 use crate::steps::run_out;
+use class_world::{TypeInfo, World};
 use core_meaning::{State, Value};
 use java_core::{CoreExpr, CoreField};
 use java_tree::{Items, NoMemory};
@@ -205,6 +206,27 @@ fn run_from<'a>(
     }
 }
 
+fn class_count(types: &[TypeInfo]) -> usize
+    ensures { result ≡ count_by spec.is_class types.now }
+{
+    types.iter().filter(|info| !info.interface).count()
+}
+
+/// At least as many as the types that a run can initialise (JLS 12.4.1): the classes and, for interfaces, the fields. None where 64 bits do not hold it.
+pub fn most_initialised(w: &World) -> Option<u64>
+    ensures { IfSome result (λ n. n ≡ spec.most_initialised w.now) }
+{
+    let classes = class_count(w.types.as_slice()) as u64;
+    classes.checked_add(w.fields.len() as u64)
+}
+
+// The depth in which a program runs for so many steps, if 64 bits hold it.
+fn depth_of(w: &World, steps: u64) -> Option<u64>
+    ensures { IfSome result (λ d. d ≡ steps + spec.most_initialised w.now) }
+{
+    steps.checked_add(most_initialised(w)?)
+}
+
 /// The run of a class with these arguments, within so many steps.
 pub(crate) fn run_class<'a>(
     alloc: Global,
@@ -216,7 +238,7 @@ pub(crate) fn run_class<'a>(
     requires { IsReady g.now }
     ensures { Runs g.now result (λ c. spec.run c class (map string_bytes args.now) steps) }
 {
-    let Some(depth) = steps.checked_add(g.world.types.len() as u64) else {
+    let Some(depth) = depth_of(g.world, steps) else {
         return Err(NoMemory);
     };
     let base = Base { depth, class };

@@ -3,8 +3,8 @@ use Rattle.std.proofs.Common.{◌≡◌, ℕ, inl, inr, List, [], ◌∷◌, ref
 use Rattle.std.proofs.lemmas.Fmt.{decimal_injective}
 use Rattle.command_words.specs.Names.{IsNumber}
 use Rattle.command_words.specs.Table.{parts_of}
-use Rattle.refactor_app.specs.Words.{Files, Request, Asks, AsksCheck, AsksSteps, Uses}
-use Rattle.refactor_app.proofs.OneSense.{change_or_check, change_or_run, check_or_run}
+use Rattle.refactor_app.specs.Words.{Aim, Become, Types, aim_command, aim_words, Files, Request, Asks, AsksCheck, AsksSteps, Uses}
+use Rattle.refactor_app.proofs.OneSense.{change_or_check, change_or_run, check_or_run, one_split}
 
 one_number : (w : List ℕ) (m n : ℕ) → IsNumber w m → IsNumber w n → m ≡ n
 one_number w m n a b = decimal_injective m n (omega (arith, a.1)) (omega (arith, b.1)) (sym a.0 ∙ b.0)
@@ -12,29 +12,38 @@ one_number w m n a b = decimal_injective m n (omega (arith, a.1)) (omega (arith,
 same_files : (a b : Files) → a.users ≡ b.users → a.libs ≡ b.libs → a ≡ b
 same_files a b users libs = rw (users, libs) refl
 
-same_request : (a b : Request) → a.out ≡ b.out → a.file ≡ b.file → a.line ≡ b.line → a.col ≡ b.col → a.ty ≡ b.ty → a.files ≡ b.files → a ≡ b
-same_request a b out file line col ty files = rw (out, file, line, col, ty, files) refl
+same_request : (a b : Request) → a.aim ≡ b.aim → a.file ≡ b.file → a.line ≡ b.line → a.col ≡ b.col → a.files ≡ b.files → a ≡ b
+same_request a b aim file line col files = rw (aim, file, line, col, files) refl
 
 -- the files of words whose other words are the same
 of_words : (ws xs : List (List ℕ)) (a b : Files) → ws ≡ xs → (parts_of ws).users ≡ a.users → (parts_of ws).libs ≡ a.libs → (parts_of xs).users ≡ b.users → (parts_of xs).libs ≡ b.libs → a ≡ b
 of_words ws xs a b same users libs users' libs' =
     same_files a b (sym users ∙ ap (λ (r : List (List ℕ)). (parts_of r).users) same ∙ users') (sym libs ∙ ap (λ (r : List (List ℕ)). (parts_of r).libs) same ∙ libs')
 
-abbrev five : List ℕ → List ℕ → List ℕ → List ℕ → List ℕ → List (List ℕ)
-five out file line col ty = out ∷ file ∷ line ∷ col ∷ ty ∷ []
+-- own words are of one aim, and of one place
+one_aim : (a b : Aim) (f l c g m d : List ℕ) → aim_words a f l c ≡ aim_words b g m d → (a ≡ b) × (f ≡ g) × (l ≡ m) × (c ≡ d)
+one_aim (Become o t) (Become o' t') f l c g m d e =
+    let out : o ≡ o' = cc in
+    let ty : t ≡ t' = cc in
+    let file : f ≡ g = cc in
+    let line : l ≡ m = cc in
+    let col : c ≡ d = cc in
+    (ap (λ x. Become x t) out ∙ ap (λ x. Become o' x) ty, file, line, col)
+one_aim (Become o t) Types f l c g m d e = absurd (cc)
+one_aim Types (Become o t) f l c g m d e = absurd (cc)
+one_aim Types Types f l c g m d e =
+    let file : f ≡ g = cc in
+    let line : l ≡ m = cc in
+    let col : c ≡ d = cc in
+    (refl, file, line, col)
 
 pub one_request : (ws : List (List ℕ)) (a b : Request) → Asks ws a → Asks ws b → a ≡ b
 one_request ws a b x y =
-    let rest : x.rest ≡ y.rest = let all = sym x.are ∙ y.are in cc in
-    let own : five a.out a.file x.line x.col a.ty ≡ five b.out b.file y.line y.col b.ty = sym x.own ∙ ap (λ (r : List (List ℕ)). (parts_of r).own) rest ∙ y.own in
-    let out : a.out ≡ b.out = cc in
-    let file : a.file ≡ b.file = cc in
-    let line : x.line ≡ y.line = cc in
-    let col : x.col ≡ y.col = cc in
-    let ty : a.ty ≡ b.ty = cc in
-    let line_is = one_number x.line a.line b.line x.at_line (subst (λ (w : List ℕ). IsNumber w b.line) (sym line) y.at_line) in
-    let col_is = one_number x.col a.col b.col x.at_col (subst (λ (w : List ℕ). IsNumber w b.col) (sym col) y.at_col) in
-    same_request a b out file line_is col_is ty (of_words x.rest y.rest a.files b.files rest x.users x.libs y.users y.libs)
+    let rest = (one_split (aim_command a.aim) (aim_command b.aim) x.rest y.rest (sym x.are ∙ y.are)).1 in
+    let own = one_aim a.aim b.aim a.file x.line x.col b.file y.line y.col (sym x.own ∙ ap (λ (r : List (List ℕ)). (parts_of r).own) rest ∙ y.own) in
+    let line_is = one_number x.line a.line b.line x.at_line (subst (λ (w : List ℕ). IsNumber w b.line) (sym own.2) y.at_line) in
+    let col_is = one_number x.col a.col b.col x.at_col (subst (λ (w : List ℕ). IsNumber w b.col) (sym own.3) y.at_col) in
+    same_request a b own.0 own.1 line_is col_is (of_words x.rest y.rest a.files b.files rest x.users x.libs y.users y.libs)
 
 one_check : (ws : List (List ℕ)) (a b : Files) → AsksCheck ws a → AsksCheck ws b → a ≡ b
 one_check ws a b x y =

@@ -1,7 +1,6 @@
 -- From the check of a program to what the check of its files answers.
 use Rattle.std.proofs.Common.{◌≡◌, ℕ, List, length, map, take, drop, sym, ◌∙◌, ap, subst}
 use Rattle.std.specs.String.{string_bytes}
-use Rattle.std.proofs.lemmas.List.{take-map, drop-map}
 use Rattle.java_tree.specs.declared.tree.SourceUnit.{SourceUnit}
 use Rattle.java_tree.specs.Plain as t
 use Rattle.java_tree.specs.View.{unit_plain}
@@ -13,16 +12,8 @@ use Rattle.refactor_app.specs.declared.asked.Task.{Task}
 use Rattle.refactor_app.specs.declared.asked.Task.TheVariants as task
 use Rattle.refactor_app.specs.Words.{AsksCheck, Files}
 use Rattle.refactor_app.specs.Asked.{AsksTask, files_of, task_files}
-use Rattle.refactor_app.specs.Declarations.{IsOfFiles}
+use Rattle.checked_files.specs.Declarations.{IsOfFiles}
 use Rattle.refactor_app.proofs.Courses.{map_length}
-
--- the program of user files and library files is that of all, split
-pub of_split : (users : ℕ) (names : List (List ℕ)) (units user lib : List SourceUnit) (p : Program) → user ≡ take users units → lib ≡ drop users units
-    → IsProgram names (take users (map unit_plain units)) (drop users (map unit_plain units)) p → IsProgram names (map unit_plain user) (map unit_plain lib) p
-of_split users names units user lib p front back is =
-    let first = take-map unit_plain users units ∙ sym (ap (λ (us : List SourceUnit). map unit_plain us) front) in
-    let last = drop-map unit_plain users units ∙ sym (ap (λ (us : List SourceUnit). map unit_plain us) back) in
-    subst (λ (us : List t.SourceUnit). IsProgram names us (map unit_plain lib) p) first (subst (λ (us : List t.SourceUnit). IsProgram names (take users (map unit_plain units)) us p) last is)
 
 -- the program of files, by what the code has of them
 pub of_files : (users n : ℕ) (names table : List (List ℕ)) (units us : List SourceUnit) (p : Program) → users ≡ n → table ≡ with_words names → us ≡ units

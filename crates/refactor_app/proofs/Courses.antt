@@ -1,7 +1,6 @@
 -- From what a call's parts ensure to the way that it goes.
 use Rattle.std.proofs.Common.{◌≡◌, ◌≢◌, ℕ, zero, suc, ◌+◌, ◌<◌, ◌≤◌, ◌⊎◌, inl, inr, true, Bool, List, [], ◌∷◌, ◌++◌, length, map, get_or, Option, Some, None, slice_get, Result, Ok, Err, IfOk, refl, sym, ◌∙◌, ap, subst, arith, length-append}
 use Rattle.std.specs.Prelude.{IfNone, OnErr}
-use Rattle.std.specs.Str.{bytes_eq}
 use Rattle.std.specs.String.{string_bytes}
 use Rattle.std.specs.declared.string.String.{String}
 use Rattle.std.specs.declared.alloc.Global.{Global}
@@ -9,16 +8,9 @@ use Rattle.java_tree.specs.Names.{built_in_names}
 use Rattle.java_tree.specs.Plain.{SourceUnit}
 use Rattle.java_tree.specs.declared.fault.NoMemory.{NoMemory}
 use Rattle.tool_files.specs.Told.{Look, Rose, WhereTold, SameBut, PutsAt}
-use Rattle.std.specs.Bool.{Decides}
-use Rattle.std.proofs.Math.Bool.{or-false}
-use Rattle.std.proofs.lemmas.Slice.Eq.{bytes_eq-Decides}
-use Rattle.command_words.specs.Names.{is_among, IsIdentifier}
 use Rattle.command_words.specs.Table.{parts_of}
 use Rattle.command_words.specs.declared.table.Command.TheVariants as command
-use Rattle.edit_writer.specs.declared.edits.Edit.{Edit}
-use Rattle.report_text.specs.Report.{edit_report, write_fault}
-use Rattle.java_grammar.specs.Interned.{interned}
-use Rattle.unit_grammar.specs.Sizes as size
+use Rattle.report_text.specs.Report.{change_report, types_report, write_fault}
 use Rattle.command_words.specs.declared.request.Request as words_of
 use Rattle.command_words.specs.Asked as asked_words
 use Rattle.command_words.specs.declared.table.Command.{Command}
@@ -28,14 +20,17 @@ use Rattle.source_files.specs.declared.read.ReadStop.{ReadStop}
 use Rattle.source_files.specs.declared.read.ReadStop.TheVariants as read
 use Rattle.source_files.specs.declared.trees.TreeStop.{TreeStop}
 use Rattle.source_files.specs.declared.trees.TreeStop.TheVariants as tree
-use Rattle.source_files.specs.Held.{AreHeld, AreSmall, Stop, StopsAt, Missing, Failed}
+use Rattle.source_files.specs.Held.{AreHeld, Stop, StopsAt, Missing, Failed}
 use Rattle.source_files.specs.Trees.{AreTrees, Lexical, Tokens, LeftOut, NoTree}
 use Rattle.source_files.specs.Answers as files
 use Rattle.refactor_app.specs.declared.status.Status.{Status}
 use Rattle.refactor_app.specs.declared.status.Status.TheVariants as s
-use Rattle.refactor_app.specs.declared.decide.Changed.{Changed}
-use Rattle.refactor_app.specs.Words.{Files, Request, inputs, IsAlone, Asks, AsksCheck, AsksRun, AsksSteps, Uses, AskOther, out_name}
-use Rattle.refactor_app.specs.Verdicts.{Refuses, Changes}
+use Rattle.changed_files.specs.declared.files.NewFiles.{NewFiles}
+use Rattle.refactor_app.specs.declared.decide.Output.{Output}
+use Rattle.refactor_app.specs.declared.decide.Verdict.{Verdict}
+use Rattle.refactor_app.specs.declared.decide.Verdict.TheVariants as verdict
+use Rattle.checker.specs.declared.check.CheckedProgram.{CheckedProgram}
+use Rattle.refactor_app.specs.Words.{Files, Request, inputs, Asks, AsksCheck, AsksRun, AsksSteps, Uses, AskOther}
 use Rattle.class_world.specs.declared.world.World.{World}
 use Rattle.java_core.specs.Plain as plain
 use Rattle.java_core.specs.View.{program_plain}
@@ -46,92 +41,36 @@ use Rattle.program_runs.specs.Told.{IsRun}
 use Rattle.java_tree.specs.declared.fault.Broken.{Broken}
 use Rattle.unchecked_ops.specs.declared.program.Operation.{Operation}
 use Rattle.checker.specs.Checking.{IsWellTyped}
-use Rattle.refactor_app.specs.declared.declarations.Declared.{Declared}
-use Rattle.refactor_app.specs.Judged.{AreDeclaredAs}
+use Rattle.checked_files.proofs.Tables.{trees_long}
+use Rattle.checked_files.proofs.Held.{held_long}
 use Rattle.refactor_app.specs.declared.asked.AskedRun.{AskedRun}
 use Rattle.refactor_app.specs.declared.asked.Task.{Task}
 use Rattle.refactor_app.specs.declared.asked.Task.TheVariants as task
 use Rattle.refactor_app.specs.declared.check.CheckAnswer.{CheckAnswer}
 use Rattle.refactor_app.specs.declared.check.CheckAnswer.TheVariants as answer
-use Rattle.refactor_app.specs.Asked.{AreRunWords, AsksRunOf, AsksTask, HasRunWords, HasType, files_of, request_of, task_files, task_steps}
-use Rattle.refactor_app.specs.Declarations.{AreDeclared}
-use Rattle.refactor_app.specs.Checked.{Answers, AreAnswered, large_line}
-use Rattle.refactor_app.specs.Decided.{IsChange}
-use Rattle.refactor_app.specs.Refusals.{AsksFew, HasDeclared, IsCheckRefusal, IsLarge, Refusal}
+use Rattle.refactor_app.specs.Asked.{AreRunWords, AsksRunOf, AsksTask, HasRunWords, files_of, request_of, task_files, task_steps}
+use Rattle.refactor_app.specs.Checked.{Answers}
+use Rattle.refactor_app.specs.Changes.{IsAnswered, IsAnsweredBy, Said, Stands, Changed, Listed, out_names, user_edits, user_texts}
+use Rattle.refactor_app.specs.Writes.{Writes, FailsAt}
+use Rattle.refactor_app.specs.Decided.{AreOutputs, Decides, IsVerdict}
+use Rattle.refactor_app.specs.Written.{ChangesSo, EndsVerdict}
+use Rattle.refactor_app.specs.Refusals.{AsksFew, HasChecked, HasDeclared, IsCheckRefusal, Refusal}
 use Rattle.refactor_app.specs.Refusals as refusal
 use Rattle.refactor_app.specs.Checking.{Passes}
 use Rattle.refactor_app.specs.Running.{Runs, run_status}
 use Rattle.refactor_app.specs.Ran.{EndsRun, IsRunAnswer, RunsSo}
-use Rattle.refactor_app.specs.Answers.{Ends}
-use Rattle.refactor_app.specs.Course.{Moment, EndsAt, EndsWith, Finishes, Sequel, Course, IsAsked}
+use Rattle.refactor_app.specs.Answers.{AreTypes, Ends, IsChange}
+use Rattle.refactor_app.specs.Course.{Moment, EndsAt, EndsWith, Finishes, Course, IsAsked}
 use Rattle.refactor_app.specs.Course as way
 use Rattle.refactor_app.specs.Stops.{Stops, TellsStop, IsNamed}
 use Rattle.refactor_app.proofs.Asking.{one_steps}
-use Rattle.refactor_app.proofs.Declaring.{still_declared}
 use Rattle.refactor_app.proofs.OneSense.{change_or_run, check_or_run}
-
-pub refuse : (q : Request) (text : List ℕ) (x : CheckAnswer) (line bytes : List ℕ) (a b : Moment) (st : Status)
-    → bytes ≡ line → Refuses q text line → b.holds ≡ a.holds → EndsAt a b bytes s.Refused st → Sequel q text x a b st
-refuse q text x line bytes a b st e r same ends = way.Sequel.refuses r same (subst (λ (l : List ℕ). EndsAt a b l s.Refused st) e ends)
-
-pub finished : (q : Request) (text : List ℕ) (x : CheckAnswer) (a b : Moment) (st : Status) (c : Changed) → IsChange q text c
-    → Finishes a.holds b.holds a.write_faults b.write_faults c (Ends a.put b.put a.faults b.faults) st → Sequel q text x a b st
-finished q text x a b st c is (inl h) =
-    way.Sequel.writes is.changes (subst (λ (n : List ℕ). WhereTold a.holds b.holds (PutsAt n c.text.items)) is.name h.0) (subst (λ (l : List ℕ). EndsAt a b l s.Done st) is.report h.1)
-finished q text x a b st c is (inr h) =
-    way.Sequel.fails is.changes (subst (λ (n : List ℕ). WhereTold a.holds b.holds (SameBut n)) is.name h.0) h.1 (subst (λ (l : List ℕ). EndsAt a b l s.WriteFault st) is.fault h.2)
 
 -- ---- what is held
 
 pub map_length : {X Y : Type 0} (f : X → Y) (xs : List X) → length (map f xs) ≡ length xs
 map_length f [] = refl
 map_length f (x ∷ xs) = ap suc (map_length f xs)
-
-pub held_long : (look : Option Look) (before : ℕ) (names texts : List (List ℕ)) → AreHeld look before names texts → length names ≡ length texts
-held_long look before [] texts h = sym (ap length h)
-held_long look before (n ∷ ns) [] h = absurd h
-held_long look before (n ∷ ns) (x ∷ xs) (is, room, more) = ap suc (held_long look (before + length x) ns xs more)
-
-pub held_small : (look : Option Look) (before : ℕ) (names texts : List (List ℕ)) → AreHeld look before names texts → AreSmall texts
-held_small look before [] texts h = subst AreSmall (sym h) tt
-held_small look before (n ∷ ns) [] h = absurd h
-held_small look before (n ∷ ns) (x ∷ xs) (is, room, more) = (room.0, held_small look (before + length x) ns xs more)
-
--- ---- a request on one file
-
-yes_of : {P : Type 0} (b : Bool) → Decides b P → b ≡ true → P
-yes_of b d e = d.0 e
-
-among_one : (w n : List ℕ) (us ls : List (List ℕ)) → is_among w us ≡ true → us ++ ls ≡ n ∷ [] → us ++ ls ≡ w ∷ []
-among_one w n [] ls is e = absurd (cc)
-among_one w n (u ∷ []) ls is e =
-    let same : w ≡ u = yes_of (bytes_eq w u) (bytes_eq-Decides w u) (sym (or-false (bytes_eq w u)) ∙ is) in
-    let none : ls ≡ [] = cc in
-    rw (none, same) refl
-among_one w n (u ∷ v ∷ vs) ls is e = absurd (cc)
-
--- FILE is one of the user's files
-file_among : (words : List (List ℕ)) (q : Request) → Asks words q → is_among q.file q.files.users ≡ true
-file_among words q asks =
-    let own : slice_get (parts_of asks.rest).own 1 ≡ Some q.file = rw asks.own refl in
-    let among : is_among q.file (parts_of asks.rest).users ≡ true = ((asks.meets 8).places refl).0 1 q.file own in
-    subst (λ (us : List (List ℕ)). is_among q.file us ≡ true) asks.users among
-
--- FILE is the one file
-pub alone : (words : List (List ℕ)) (q : Request) (n : List ℕ) → Asks words q → inputs q.files ≡ n ∷ [] → IsAlone q
-alone words q n asks e = among_one q.file n q.files.users q.files.libs (file_among words q asks) e
-
-users_one : (w n : List ℕ) (us ls : List (List ℕ)) → is_among w us ≡ true → us ++ ls ≡ n ∷ [] → length us ≡ 1
-users_one w n [] ls is e = absurd (cc)
-users_one w n (u ∷ []) ls is e = refl
-users_one w n (u ∷ v ∷ vs) ls is e = absurd (cc)
-
--- and a user's file
-one_user : (words : List (List ℕ)) (q : Request) → Asks words q → IsAlone q → length q.files.users ≡ 1
-one_user words q asks is = users_one q.file q.file q.files.users q.files.libs (file_among words q asks) is
-
-pub not_alone : (q : Request) (texts : List (List ℕ)) (look : Option Look) → AreHeld look 0 (inputs q.files) texts → (length texts ≡ 1 → ⊥) → IsAlone q → ⊥
-not_alone q texts look h many is = many (sym (held_long look 0 (inputs q.files) texts h) ∙ ap length is)
 
 -- ---- a check
 
@@ -146,26 +85,23 @@ module _ (words : List (List ℕ)) (fs : Files) (texts names : List (List ℕ)) 
   -- what becomes of a check of files is what becomes of the call
   pub on_check : (x : CheckAnswer) → AsksCheck words fs → Answers fs texts units h.declared.program w x → b.holds ≡ a.holds → EndsWith a.put b.put a.faults b.faults x st → Course words a b st
   on_check (answer.Refused line) asks (rule, broken, is) same ends =
-      way.Course.refuses (refusal.Refusal.checked fs texts names units rule (inl asks) h (refusal_told rule broken)) same (subst (λ (x : List ℕ). EndsAt a b x s.Refused st) is ends)
-  on_check (answer.Passed report core) asks (operations, well, is) same ends =
+      way.Course.refuses (refusal.Refusal.checked fs texts names units rule h (refusal_told rule broken)) same (subst (λ (x : List ℕ). EndsAt a b x s.Refused st) is ends)
+  on_check (answer.Passed report checked) asks (well, is) same ends =
       way.Course.checks {line = string_bytes report}
       (record {
         fs = fs;
         texts = texts;
         names = names;
         units = units;
-        core = program_plain core;
-        operations = operations;
+        core = program_plain checked.core;
+        operations = checked.operations;
         asks = asks;
         declared = h;
-        typed = typed_told (program_plain core) operations well;
+        typed = typed_told (program_plain checked.core) checked.operations well;
         is = is;
       }) same ends
 
   module _ (r : AskedRun) (asks : AsksRunOf words r) (files : files_of r.inputs ≡ fs) (table : List (List ℕ)) (words_are : table ≡ with_words names) where
-    asks_steps : AsksSteps words fs r.steps
-    asks_steps = subst (λ (fs : Files). AsksSteps words fs r.steps) files (record { class = r.class.now; args = map string_bytes r.args.now; asks = asks })
-
     run_told : (core : plain.Program) (x : RunAnswer) → IsRunAnswer w table r core x
         → IsRun h.declared.world (with_words names) core (length fs.users) r.class.now (map string_bytes r.args.now) r.steps x
     run_told core x is =
@@ -213,54 +149,89 @@ module _ (words : List (List ℕ)) (fs : Files) (texts names : List (List ℕ)) 
 
     pub on_run : (x : CheckAnswer) → Answers fs texts units h.declared.program w x → b.holds ≡ a.holds → RunsSo w table r a.put b.put a.faults b.faults x st → Course words a b st
     on_run (answer.Refused line) (rule, broken, is) same ends =
-        way.Course.refuses (refusal.Refusal.checked fs texts names units rule (inr (inl (r.steps, asks_steps))) h (refusal_told rule broken)) same
+        way.Course.refuses (refusal.Refusal.checked fs texts names units rule h (refusal_told rule broken)) same
         (subst (λ (x : List ℕ). EndsAt a b x s.Refused st) is ends)
-    on_run (answer.Passed report core) (operations, well, is) same (x, runs, ends) = ran (program_plain core) operations x well runs same ends
+    on_run (answer.Passed report checked) (well, is) same (x, runs, ends) = ran (program_plain checked.core) checked.operations x well runs same ends
 
--- a change that no small program answers
-pub on_large : (words : List (List ℕ)) (q : Request) (texts names : List (List ℕ)) (units : List SourceUnit) (a b : Moment) (st : Status) (w : World)
-    (h : HasDeclared words a.holds q.files texts names units) → h.declared.world ≡ w → (x : CheckAnswer) → Asks words q → IsLarge q texts → Answers q.files texts units h.declared.program w x
-    → b.holds ≡ a.holds → EndsAt a b (large_line x) s.Refused st → Course words a b st
-on_large words q texts names units a b st w h world (answer.Refused line) asks large (rule, broken, is) same ends =
-    way.Course.refuses (refusal.Refusal.checked q.files texts names units rule (inr (inr (q, refl, asks, large))) h (refusal_told words q.files texts names units a b st w h world rule broken)) same
-    (subst (λ (x : List ℕ). EndsAt a b x s.Refused st) is ends)
-on_large words q texts names units a b st w h world (answer.Passed report core) asks large (operations, well, is) same ends =
-    way.Course.refuses (refusal.Refusal.n2 q texts names units asks large
-    (record { declared = h; core = program_plain core; operations = operations; typed = typed_told words q.files texts names units a b st w h world (program_plain core) operations well })) same ends
+-- ---- a change
 
-module _ (words : List (List ℕ)) (q : Request) (text : List ℕ) (names : List (List ℕ)) (u : SourceUnit) (a b : Moment) (st : Status) where
-  asked : Asks words q → HasDeclared words a.holds q.files (text ∷ []) names (u ∷ []) → IsAlone q → (made : List ℕ) (e : Edit) → Changes q text made e → IsAsked words a q made e
-  asked asks declared is made e c =
-      let one = subst (λ (n : ℕ). AreDeclared n names (u ∷ [])) (one_user words q asks is) declared.declared in
-      record { text = text; names = names; unit = u; asks = asks; declared = declared; alone = is; changes = c; still_declared = still_declared q text names u made e declared.parsed.trees one c }
+rose_later : (a b c : ℕ) → a ≤ b → Rose b c → Rose a c
+rose_later a b c le (inl h) = inl (omega arith)
+rose_later a b c le (inr h) = inr h
 
-  -- what becomes of a request on the text is what becomes of the call
-  pub on_alone : (w : World) (x : CheckAnswer) → Asks words q → (declared : HasDeclared words a.holds q.files (text ∷ []) names (u ∷ [])) → declared.declared.world ≡ w
-      → Answers q.files (text ∷ []) (u ∷ []) declared.declared.program w x → IsAlone q → Sequel q text x a b st → Course words a b st
-  on_alone w x asks declared world answered is (way.Sequel.large none same ends) =
-      on_large words q (text ∷ []) names (u ∷ []) a b st w declared world x asks (inr (text, is, refl, none)) answered same ends
-  on_alone w x asks declared world answered is (way.Sequel.refuses {line = line} r same ends) = way.Course.refuses (refusal.Refusal.refuses q text names u asks declared is r) same ends
-  on_alone w x asks declared world answered is (way.Sequel.writes {made = made} {e = e} c told ends) = way.Course.writes (asked asks declared is made e c) told ends
-  on_alone w x asks declared world answered is (way.Sequel.fails {made = made} {e = e} c told rose ends) = way.Course.fails (asked asks declared is made e c) told rose ends
-  on_alone w x asks declared world answered is (way.Sequel.no_memory e p none) = way.Course.no_memory e p none
+-- the new files of outputs are written, or one of them fails
+finishes : (os : List Output) (ns ts : List (List ℕ)) (old new : Option Look) (f f' : ℕ) (report : List ℕ) (ends : List ℕ → Status → Status → Type 0) (st : Status)
+    → AreOutputs ns ts os → Finishes os old new f f' report ends st
+    → (Writes ns ts old new × ends report s.Done st) ⊎ ((name : List ℕ) × FailsAt ns ts name old new × Rose f f' × ends (write_fault name) s.WriteFault st)
+finishes [] [] [] old new f f' report ends st are (same, done) = inl (same, done)
+finishes [] [] (t ∷ ts) old new f f' report ends st are h = absurd are
+finishes [] (n ∷ ns) [] old new f f' report ends st are h = absurd are
+finishes [] (n ∷ ns) (t ∷ ts) old new f f' report ends st are h = absurd are
+finishes (o ∷ os) [] [] old new f f' report ends st are h = absurd are
+finishes (o ∷ os) [] (t ∷ ts) old new f f' report ends st are h = absurd are
+finishes (o ∷ os) (n ∷ ns) [] old new f f' report ends st are h = absurd are
+finishes (o ∷ os) (n ∷ ns) (t ∷ ts) old new f f' report ends st (is, more) (inl (now, g, le, put, rest)) =
+    let here : WhereTold old now (PutsAt n t) = subst (λ (m : List ℕ). WhereTold old now (PutsAt m t)) is.named (subst (λ (x : List ℕ). WhereTold old now (PutsAt (string_bytes o.name) x)) is.holds put) in
+    elim (finishes os ns ts now new g f' report ends st more rest) [
+      | inl (writes, done) ↦ inl ((now, here, writes), done)
+      | inr (name, fails, rose, fault) ↦ inr (name, inr (now, here, fails), rose_later f g f' le rose, fault)
+    ]
+finishes (o ∷ os) (n ∷ ns) (t ∷ ts) old new f f' report ends st (is, more) (inr (others, rose, fault)) =
+    inr (n, inl (refl, subst (λ (m : List ℕ). WhereTold old new (SameBut m)) is.named others), rose, subst (λ (x : List ℕ). ends x s.WriteFault st) is.fault fault)
 
-pub trees_long : (names : List (List ℕ)) (first count : ℕ) (texts : List (List ℕ)) (units : List SourceUnit) (new : List (List ℕ))
-    → AreTrees names first count texts units new → length units ≡ length texts
-trees_long names first count [] units new h = ap length h.0
-trees_long names first count (x ∷ xs) [] new h = absurd h
-trees_long names first count (x ∷ xs) (u ∷ us) new (ts, allowed, is, more) =
-    ap suc (trees_long (interned x ts names) (first + size.unit u) (count + length ts) xs us new more)
+module _ (words : List (List ℕ)) (q : Request) (texts names : List (List ℕ)) (units : List SourceUnit) (a b : Moment) (st : Status) (w : World)
+    (h : HasDeclared words a.holds q.files texts names units) (world : h.declared.world ≡ w) (asks : Asks words q) (table : List (List ℕ)) (words_are : table ≡ with_words names) where
+  abbrev checked_told : (c : CheckedProgram) → IsWellTyped h.declared.program w (program_plain c.core) c.operations → HasChecked words a.holds q.files texts names units
+  checked_told c well = record {
+    declared = h;
+    core = program_plain c.core;
+    operations = c.operations;
+    typed = typed_told words q.files texts names units a b st w h world (program_plain c.core) c.operations well;
+  }
 
--- the only one of a list
-only_one : {X : Type 0} (xs : List X) (x : X) → length xs ≡ 1 → x ≡ get_or xs 0 x → xs ≡ x ∷ []
-only_one [] x n e = absurd (omega (arith, n))
-only_one (y ∷ []) x n e = ap (λ z. z ∷ []) (sym e)
-only_one (y ∷ z ∷ zs) x n e = absurd (omega (arith, n))
+  answered : (c : CheckedProgram) (x : Said) → IsAnsweredBy q texts table units h.declared.program w (program_plain c.core) c.operations x
+      → IsAnswered q texts names units h.declared.program h.declared.world (program_plain c.core) c.operations x
+  answered c x is =
+      subst (λ (w : World). IsAnsweredBy q texts (with_words names) units h.declared.program w (program_plain c.core) c.operations x) (sym world)
+      (subst (λ (ns : List (List ℕ)). IsAnsweredBy q texts ns units h.declared.program w (program_plain c.core) c.operations x) words_are is)
 
-last_one : {X : Type 0} (xs rest : List X) (x : X) → xs ≡ rest ++ x ∷ [] → length xs ≡ 1 → xs ≡ x ∷ []
-last_one xs [] x e n = e
-last_one xs (y ∷ []) x e n = absurd (omega (arith, n, ap length e))
-last_one xs (y ∷ z ∷ zs) x e n = absurd (omega (arith, n, ap length e))
+  -- what is said is put
+  on_answer : (c : CheckedProgram) (x : Said) (v : Verdict) → IsWellTyped h.declared.program w (program_plain c.core) c.operations
+      → IsAnsweredBy q texts table units h.declared.program w (program_plain c.core) c.operations x → IsVerdict q texts units x v
+      → EndsVerdict a.holds b.holds a.write_faults b.write_faults a.put b.put a.faults b.faults (Ok v) st → Course words a b st
+  on_answer c (Stands x) (verdict.Refused line) well is line_is (same, ends) =
+      way.Course.refuses (refusal.Refusal.against q texts names units x (record { asks = asks; checked = checked_told c well; against = answered c (Stands x) is })) same
+      (subst (λ (l : List ℕ). EndsAt a b l s.Refused st) line_is ends)
+  on_answer c (Stands x) (verdict.Changed outputs report) well is none ends = absurd none
+  on_answer c (Stands x) (verdict.Listed report) well is none ends = absurd none
+  on_answer c (Changed new) (verdict.Refused line) well is none ends = absurd none
+  on_answer c (Changed new) (verdict.Listed report) well is none ends = absurd none
+  on_answer c (Listed types) (verdict.Refused line) well is none ends = absurd none
+  on_answer c (Listed types) (verdict.Changed outputs report) well is none ends = absurd none
+  on_answer c (Listed types) (verdict.Listed report) well is told (same, ends) =
+      let are : AreTypes words a.holds q types = record { texts = texts; names = names; units = units; asks = asks; checked = checked_told c well; says = answered c (Listed types) is } in
+      way.Course.lists are same (subst (λ (l : List ℕ). EndsAt a b l s.Done st) told ends)
+  on_answer c (Changed new) (verdict.Changed outputs report) well is (are, told) ends =
+      let change : IsAsked words a q new = record { texts = texts; names = names; units = units; asks = asks; checked = checked_told c well; says = answered c (Changed new) is } in
+      elim (finishes outputs (out_names q) (user_texts q new) a.holds b.holds a.write_faults b.write_faults report.items (Ends a.put b.put a.faults b.faults) st are ends) [
+        | inl (writes, done) ↦ way.Course.writes change writes (subst (λ (l : List ℕ). EndsAt a b l s.Done st) told done)
+        | inr (name, fails, rose, fault) ↦ way.Course.fails name change fails rose fault
+      ]
+
+  on_verdict : (c : CheckedProgram) (x : Result Verdict NoMemory) → IsWellTyped h.declared.program w (program_plain c.core) c.operations
+      → IfOk x (Decides q texts table units h.declared.program w c) → EndsVerdict a.holds b.holds a.write_faults b.write_faults a.put b.put a.faults b.faults x st → Course words a b st
+  on_verdict c (Ok v) well (x, is, told) ends = on_answer c x v well is told ends
+  on_verdict c (Err e) well told (none, same, put) = way.Course.no_memory same put none
+
+  -- what becomes of a change of files is what becomes of the call
+  pub on_changed : (x : CheckAnswer) → Answers q.files texts units h.declared.program w x
+      → ChangesSo a.holds b.holds a.write_faults b.write_faults a.put b.put a.faults b.faults q texts table units h.declared.program w x st → Course words a b st
+  on_changed (answer.Refused line) (rule, broken, is) (same, ends) =
+      way.Course.refuses (refusal.Refusal.checked q.files texts names units rule h (refusal_told words q.files texts names units a b st w h world rule broken)) same
+      (subst (λ (x : List ℕ). EndsAt a b x s.Refused st) is ends)
+  on_changed (answer.Passed report checked) (well, is) (v, told, ends) = on_verdict checked v well told ends
+
+-- ---- a task
 
 -- the user's files are among the files
 pub users_within : (look : Option Look) (fs : Files) (texts : List (List ℕ)) (units : List SourceUnit) (names : List (List ℕ)) → AreHeld look 0 (inputs fs) texts
@@ -271,70 +242,20 @@ users_within look fs texts units names held trees =
     let both = length-append {A = List ℕ} fs.users fs.libs in
     omega (arith, many, files, both)
 
--- the text, and the tree, of the one file
-pub record IsOneFile (look : Option Look) (fs : Files) (text : List ℕ) (names : List (List ℕ)) (u : SourceUnit) (d : Declared) (x : CheckAnswer) : Type 0 where
-  pub held : AreHeld look 0 (inputs fs) (text ∷ [])
-  pub trees : AreTrees built_in_names 0 0 (text ∷ []) (u ∷ []) names
-  pub declared : AreDeclaredAs (length fs.users) names (u ∷ []) d
-  pub answered : AreAnswered fs (text ∷ []) names (u ∷ []) d x
-
-pub one_file : {X : Type 0} (view : X → SourceUnit) (look : Option Look) (fs : Files) (texts : List (List ℕ)) (text : List ℕ) (names : List (List ℕ)) (units rest : List X) (x : X) (d : Declared) (c : CheckAnswer)
-    → AreHeld look 0 (inputs fs) texts → AreTrees built_in_names 0 0 texts (map view units) names → AreDeclaredAs (length fs.users) names (map view units) d
-    → AreAnswered fs texts names (map view units) d c → length texts ≡ 1 → text ≡ get_or texts 0 text → units ≡ rest ++ x ∷ [] → IsOneFile look fs text names (view x) d c
-one_file view look fs texts text names units rest x d c held trees declared answered one is last =
-    let alone_text : texts ≡ text ∷ [] = only_one texts text one is in
-    let many : length units ≡ 1 = sym (map_length view units) ∙ trees_long built_in_names 0 0 texts (map view units) names trees ∙ one in
-    let alone_unit : units ≡ x ∷ [] = last_one units rest x last many in
-    record {
-      held = subst (λ (xs : List (List ℕ)). AreHeld look 0 (inputs fs) xs) alone_text held;
-      trees = subst (λ (xs : List (List ℕ)). AreTrees built_in_names 0 0 xs (view x ∷ []) names) alone_text (subst (λ us. AreTrees built_in_names 0 0 texts (map view us) names) alone_unit trees);
-      declared = subst (λ us. AreDeclaredAs (length fs.users) names (map view us) d) alone_unit declared;
-      answered = subst (λ (xs : List (List ℕ)). AreAnswered fs xs names (view x ∷ []) d c) alone_text (subst (λ us. AreAnswered fs texts names (map view us) d c) alone_unit answered);
-    }
-
-pub one_small : (look : Option Look) (before : ℕ) (names : List (List ℕ)) (text : List ℕ) → AreHeld look before names (text ∷ []) → length text ≤ 1048576
-one_small look before [] text h = absurd (let n = ap length h in omega (arith, n))
-one_small look before (n ∷ ns) text (is, room, more) = room.0
-
-one_input : (look : Option Look) (before : ℕ) (names : List (List ℕ)) (text : List ℕ) → AreHeld look before names (text ∷ []) → (n : List ℕ) × (names ≡ n ∷ [])
-one_input look before [] text h = absurd (let n = ap length h in omega (arith, n))
-one_input look before (n ∷ []) text h = (n, refl)
-one_input look before (n ∷ m ∷ ns) text (is, room, more) = absurd more
-
-module _ (words : List (List ℕ)) (q : Request) (text : List ℕ) (names : List (List ℕ)) (u : SourceUnit) (a b : Moment) (st : Status) where
-  pub on_one : (d : Declared) (x : CheckAnswer) → Asks words q → AsksFew words q.files → IsOneFile a.holds q.files text names u d x → Sequel q text x a b st → Course words a b st
-  on_one d x asks few is h =
-      let input = one_input a.holds 0 (inputs q.files) text is.held in
-      on_alone words q text names u a b st d.world x asks (record { parsed = record { read = record { asks = few; held = is.held }; trees = is.trees }; declared = is.declared.declared })
-      is.declared.world (is.answered is.declared.declared.program is.declared.declared.files) (alone words q input.0 asks input.1) h
-
--- ---- a task
-
--- TYPE is an identifier
-identifier_of : (words : List (List ℕ)) (q : Request) → Asks words q → IsIdentifier q.ty
-identifier_of words q asks =
-    let own : slice_get (parts_of asks.rest).own 4 ≡ Some q.ty = rw asks.own refl in
-    (asks.meets 7).identifiers refl 4 q.ty own
-
-pub type_of : (words : List (List ℕ)) (t : Task) → AsksTask words t → HasType t
-type_of words (task.Change q) asks = identifier_of words (request_of q) asks
-type_of words (task.Check i) asks = tt
-type_of words (task.Run r) asks = tt
-
 pub uses_of : (words : List (List ℕ)) (t : Task) → AsksTask words t → Uses words (task_files t)
-uses_of words (task.Change q) asks = inl (request_of q, asks, refl)
+uses_of words (task.Place q) asks = inl (request_of q, asks, refl)
 uses_of words (task.Check i) asks = inr (inl asks)
 uses_of words (task.Run r) asks = inr (inr (r.steps, record { class = r.class.now; args = map string_bytes r.args.now; asks = asks }))
 
 -- only a run takes steps
 pub steps_of : (words : List (List ℕ)) (t : Task) (n : ℕ) → AsksTask words t → AsksSteps words (task_files t) n → n ≡ task_steps t
-steps_of words (task.Change q) n asks run = absurd (change_or_run words (request_of q) n (task_files (task.Change q)) asks run)
+steps_of words (task.Place q) n asks run = absurd (change_or_run words (request_of q) n (task_files (task.Place q)) asks run)
 steps_of words (task.Check i) n asks run = absurd (check_or_run words (files_of i) n (files_of i) asks run)
 steps_of words (task.Run r) n asks run = one_steps words n r.steps (files_of r.inputs) (files_of r.inputs) run (record { class = r.class.now; args = map string_bytes r.args.now; asks = asks })
 
 -- and where there are steps, it is a run
 pub run_of : (words : List (List ℕ)) (t : Task) → AsksTask words t → 0 < task_steps t → AsksSteps words (task_files t) (task_steps t)
-run_of words (task.Change q) asks some = absurd (omega (arith, some))
+run_of words (task.Place q) asks some = absurd (omega (arith, some))
 run_of words (task.Check i) asks some = absurd (omega (arith, some))
 run_of words (task.Run r) asks some = record { class = r.class.now; args = map string_bytes r.args.now; asks = asks }
 
@@ -380,12 +301,13 @@ run_words r is shape numbers =
     has_words (map string_bytes r.own.now) (subst (λ (c : Command). HasShape c (asked_words.parts r)) is shape).0.0 (subst (λ (c : Command). HasNumbers c (asked_words.parts r)) is numbers)
 
 -- the words ask for another command
-pub asks_other : (words : List (List ℕ)) (r : words_of.Request) → asked_words.Asks words r → r.command ≢ command.Generalize → r.command ≢ command.Check → r.command ≢ command.Run → AskOther words
-asks_other words r asks no_change no_check no_run = record {
+pub asks_other : (words : List (List ℕ)) (r : words_of.Request) → asked_words.Asks words r → r.command ≢ command.Generalize → r.command ≢ command.Allowed → r.command ≢ command.Check → r.command ≢ command.Run → AskOther words
+asks_other words r asks no_change no_types no_check no_run = record {
   command = r.command;
   rest = asks.rest;
   are = asks.are;
   no_change = no_change;
+  no_types = no_types;
   no_check = no_check;
   no_run = no_run;
   meets = λ n. subst (λ (p : Parts). Meets r.command p n) (sym asks.parts_are) (asks.meets n);
@@ -442,10 +364,6 @@ stopped words fs a b st read.NoMemory asks h missed failed same none = way.Cours
 
 -- ---- a call that begins earlier
 
-rose_later : (a b c : ℕ) → a ≤ b → Rose b c → Rose a c
-rose_later a b c le (inl h) = inl (omega arith)
-rose_later a b c le (inr h) = inr h
-
 ends_from : (a m b : Moment) (line : List ℕ) (wanted st : Status) → m.put ≡ a.put → m.faults ≡ a.faults → EndsAt m b line wanted st → EndsAt a b line wanted st
 ends_from a m b line wanted st put faults ends =
     subst (λ (p : Option (List ℕ)). Ends p b.put a.faults b.faults line wanted st) put (subst (λ (f : ℕ). Ends m.put b.put f b.faults line wanted st) faults ends)
@@ -460,17 +378,8 @@ pub record IsAfter (a m : Moment) : Type 0 where
   pub faults : m.faults ≡ a.faults
 
 module _ (words : List (List ℕ)) (a m b : Moment) (st : Status) (after : IsAfter a m) where
-  asked_from : (q : Request) (made : List ℕ) (e : Edit) → IsAsked words m q made e → IsAsked words a q made e
-  asked_from q made e h = record {
-    text = h.text;
-    names = h.names;
-    unit = h.unit;
-    asks = h.asks;
-    declared = subst (λ (look : Option Look). HasDeclared words look q.files (h.text ∷ []) h.names (h.unit ∷ [])) after.holds h.declared;
-    alone = h.alone;
-    changes = h.changes;
-    still_declared = h.still_declared;
-  }
+  asked_from : (q : Request) (made : NewFiles) → IsAsked words m q made → IsAsked words a q made
+  asked_from q made h = subst (λ (look : Option Look). IsChange words look q made) after.holds h
 
   pub from_before : Course words m b st → Course words a b st
   from_before (way.Course.usages low same ends) = way.Course.usages low (same ∙ after.holds) (ends_from a m b _ _ st after.put after.faults ends)
@@ -486,12 +395,15 @@ module _ (words : List (List ℕ)) (a m b : Moment) (st : Status) (after : IsAft
       way.Course.checks (subst (λ (look : Option Look). Passes words look line) after.holds p) (same ∙ after.holds) (ends_from a m b line s.Done st after.put after.faults ends)
   from_before (way.Course.runs {line = line} how p same ends) =
       way.Course.runs how (subst (λ (look : Option Look). Runs words look line how) after.holds p) (same ∙ after.holds) (ends_from a m b line (run_status how) st after.put after.faults ends)
-  from_before (way.Course.writes {q = q} {made = made} {e = x} c told ends) =
-      way.Course.writes (asked_from q made x c) (subst (λ (h : Option Look). WhereTold h b.holds (PutsAt (out_name q) made)) after.holds told)
-      (ends_from a m b (edit_report q.file x) s.Done st after.put after.faults ends)
-  from_before (way.Course.fails {q = q} {made = made} {e = x} c told rose ends) =
-      way.Course.fails (asked_from q made x c) (subst (λ (h : Option Look). WhereTold h b.holds (SameBut (out_name q))) after.holds told)
-      (rose_later a.write_faults m.write_faults b.write_faults after.write_faults rose) (ends_from a m b (write_fault (out_name q)) s.WriteFault st after.put after.faults ends)
+  from_before (way.Course.lists {q = q} {types = types} p same ends) =
+      way.Course.lists (subst (λ (look : Option Look). AreTypes words look q types) after.holds p) (same ∙ after.holds)
+      (ends_from a m b (types_report types) s.Done st after.put after.faults ends)
+  from_before (way.Course.writes {q = q} {made = made} c told ends) =
+      way.Course.writes (asked_from q made c) (subst (λ (h : Option Look). Writes (out_names q) (user_texts q made) h b.holds) after.holds told)
+      (ends_from a m b (change_report q.files.users (user_edits q made)) s.Done st after.put after.faults ends)
+  from_before (way.Course.fails {q = q} {made = made} name c told rose ends) =
+      way.Course.fails name (asked_from q made c) (subst (λ (h : Option Look). FailsAt (out_names q) (user_texts q made) name h b.holds) after.holds told)
+      (rose_later a.write_faults m.write_faults b.write_faults after.write_faults rose) (ends_from a m b (write_fault name) s.WriteFault st after.put after.faults ends)
   from_before (way.Course.no_memory same put is) = way.Course.no_memory (same ∙ after.holds) (put ∙ after.put) is
 
 -- a report that was made is put, or there was no memory for it

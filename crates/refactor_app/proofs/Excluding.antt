@@ -1,14 +1,15 @@
 -- The answers of the call exclude each other.
 use Rattle.std.proofs.Common.{◌≡◌, ℕ, ◌≤◌, ◌⊎◌, inl, inr, List, Option, Some, length, refl, sym, ap, subst, arith}
 use Rattle.tool_files.specs.Told.{Look}
-use Rattle.refactor_app.specs.Words.{Files, inputs, AsksSteps, Uses, AskOther}
+use Rattle.changed_files.specs.declared.files.NewFiles.{NewFiles}
+use Rattle.refactor_app.specs.Words.{Files, Request, inputs, AsksSteps, Uses, AskOther}
 use Rattle.refactor_app.specs.Refusals.{most_files, most_steps, AsksFew}
 use Rattle.core_meaning.specs.declared.values.End.{End}
 use Rattle.core_meaning.specs.declared.values.End.TheVariants as end
-use Rattle.refactor_app.specs.Answers.{IsBound, IsDone, IsChangeDone, IsRefused, IsRunEnded, IsThrew, IsUsage, IsMissing, IsReadFault, IsWriteFault}
-use Rattle.refactor_app.specs.Outcomes.{Outcome, Misused, Absent, Refused, Changed, Judged, Ended, ComesTo, AreTreeless, IsOfTypes, Excludes}
+use Rattle.refactor_app.specs.Answers.{IsBound, IsChange, IsDone, IsChangeDone, IsRefused, IsRunEnded, IsThrew, IsUsage, IsMissing, IsReadFault, IsWriteFault}
+use Rattle.refactor_app.specs.Outcomes.{Outcome, Misused, Absent, Refused, Changed, Listed, Judged, Ended, ComesTo, AreTreeless, IsOfTypes, Excludes}
 use Rattle.refactor_app.proofs.Asking.{one_files}
-use Rattle.refactor_app.proofs.OneSense.{lowest_or_asks, other_or_asks}
+use Rattle.refactor_app.proofs.OneSense.{change_or_run, lowest_or_asks, other_or_asks}
 use Rattle.refactor_app.proofs.OneOutcome.{one_outcome}
 
 -- what sort of outcome it is
@@ -16,9 +17,10 @@ abbrev sort : Outcome → ℕ
 sort (Misused rule) = 0
 sort (Absent name) = 1
 sort (Refused line) = 2
-sort (Changed q made e) = 3
+sort (Changed q made) = 3
 sort (Judged report) = 4
 sort (Ended report how) = 5
+sort (Listed q types) = 6
 
 both_refused : (words : List (List ℕ)) (old : Option Look) (a b : Outcome) → AreTreeless words old a b → sort a ≡ sort b
 both_refused words old (Refused x) (Refused y) t = refl
@@ -27,6 +29,8 @@ both_refused words old a b t = absurd t
 -- an outcome of another sort is nothing that a check says of types
 abbrev IsBefore : Outcome → Type 0
 IsBefore (Refused line) = ⊥
+IsBefore (Changed q made) = ⊥
+IsBefore (Listed q types) = ⊥
 IsBefore (Judged report) = ⊥
 IsBefore (Ended report how) = ⊥
 IsBefore _ = Unit {0}
@@ -35,7 +39,8 @@ no_types : (words : List (List ℕ)) (old : Option Look) (a : Outcome) → IsBef
 no_types words old (Misused rule) is h = h
 no_types words old (Absent name) is h = h
 no_types words old (Refused line) is h = is
-no_types words old (Changed q made e) is h = h
+no_types words old (Changed q made) is h = is
+no_types words old (Listed q types) is h = is
 no_types words old (Judged report) is h = is
 no_types words old (Ended report how) is h = is
 
@@ -56,9 +61,10 @@ module _ (words : List (List ℕ)) (look : Look) where
     absent u = record { fs = u.fs; file = u.file; asks = u.asks; named = u.named; absent = u.absent }
 
     usage_done : IsUsage words (Some look) new before after → IsDone words (Some look) now front back → ⊥
-    usage_done u (inl v) = differ (Misused u.rule) (Changed v.q v.made v.edit) u.lowest v.change (inl tt) (λ e. omega (arith, e))
+    usage_done u (inl v) = differ (Misused u.rule) (Changed v.q v.made) u.lowest v.change (inl tt) (λ e. omega (arith, e))
     usage_done u (inr (inl v)) = differ (Misused u.rule) (Judged v.line) u.lowest v.passes (inl tt) (λ e. omega (arith, e))
-    usage_done u (inr (inr v)) = differ (Misused u.rule) (Ended v.line _) u.lowest v.runs (inl tt) (λ e. omega (arith, e))
+    usage_done u (inr (inr (inl v))) = differ (Misused u.rule) (Ended v.line _) u.lowest v.runs (inl tt) (λ e. omega (arith, e))
+    usage_done u (inr (inr (inr v))) = differ (Misused u.rule) (Listed v.q v.types) u.lowest v.are (inl tt) (λ e. omega (arith, e))
 
     usage_refused : IsUsage words (Some look) new before after → IsRefused words (Some look) now front back → ⊥
     usage_refused u v = differ (Misused u.rule) (Refused v.line) u.lowest v.refusal (inl tt) (λ e. omega (arith, e))
@@ -67,12 +73,13 @@ module _ (words : List (List ℕ)) (look : Look) where
     usage_read_fault u v = lowest_or_asks words u.rule v.fs u.lowest v.asks.uses
 
     usage_write_fault : IsUsage words (Some look) new before after → IsWriteFault words (Some look) now front back → ⊥
-    usage_write_fault u v = differ (Misused u.rule) (Changed v.q v.made v.edit) u.lowest v.change (inl tt) (λ e. omega (arith, e))
+    usage_write_fault u v = differ (Misused u.rule) (Changed v.q v.made) u.lowest v.change (inl tt) (λ e. omega (arith, e))
 
     missing_done : IsMissing words (Some look) new before after → IsDone words (Some look) now front back → ⊥
-    missing_done u (inl v) = differ (Absent u.name) (Changed v.q v.made v.edit) (absent u) v.change (inl tt) (λ e. omega (arith, e))
+    missing_done u (inl v) = differ (Absent u.name) (Changed v.q v.made) (absent u) v.change (inl tt) (λ e. omega (arith, e))
     missing_done u (inr (inl v)) = differ (Absent u.name) (Judged v.line) (absent u) v.passes (inl tt) (λ e. omega (arith, e))
-    missing_done u (inr (inr v)) = differ (Absent u.name) (Ended v.line _) (absent u) v.runs (inl tt) (λ e. omega (arith, e))
+    missing_done u (inr (inr (inl v))) = differ (Absent u.name) (Ended v.line _) (absent u) v.runs (inl tt) (λ e. omega (arith, e))
+    missing_done u (inr (inr (inr v))) = differ (Absent u.name) (Listed v.q v.types) (absent u) v.are (inl tt) (λ e. omega (arith, e))
 
     missing_usage : IsMissing words (Some look) new before after → IsUsage words (Some look) now front back → ⊥
     missing_usage u v = differ (Absent u.name) (Misused v.rule) (absent u) v.lowest (inl tt) (λ e. omega (arith, e))
@@ -81,13 +88,7 @@ module _ (words : List (List ℕ)) (look : Look) where
     missing_refused u v = differ (Absent u.name) (Refused v.line) (absent u) v.refusal (inl tt) (λ e. omega (arith, e))
 
     missing_write_fault : IsMissing words (Some look) new before after → IsWriteFault words (Some look) now front back → ⊥
-    missing_write_fault u v = differ (Absent u.name) (Changed v.q v.made v.edit) (absent u) v.change (inl tt) (λ e. omega (arith, e))
-
-    refused_done : IsRefused words (Some look) new before after → IsChangeDone words (Some look) now front back → ⊥
-    refused_done u v = differ (Refused u.line) (Changed v.q v.made v.edit) u.refusal v.change (inr tt) (λ e. omega (arith, e))
-
-    refused_write_fault : IsRefused words (Some look) new before after → IsWriteFault words (Some look) now front back → ⊥
-    refused_write_fault u v = differ (Refused u.line) (Changed v.q v.made v.edit) u.refusal v.change (inr tt) (λ e. omega (arith, e))
+    missing_write_fault u v = differ (Absent u.name) (Changed v.q v.made) (absent u) v.change (inl tt) (λ e. omega (arith, e))
 
     module _ (how : End) (u : IsRunEnded words (Some look) new before after how) where
       ended_usage : IsUsage words (Some look) now front back → ⊥
@@ -96,11 +97,15 @@ module _ (words : List (List ℕ)) (look : Look) where
       ended_missing : (v : IsMissing words (Some look) now front back) → ComesTo words (Some look) (Absent v.name) → ⊥
       ended_missing v is = differ (Ended u.line how) (Absent v.name) u.runs is (inr tt) (λ e. omega (arith, e))
 
+      -- words that ask for a run ask for no change
+      no_change : (q : Request) (made : NewFiles) → IsChange words (Some look) q made → ⊥
+      no_change q made c = change_or_run words q u.runs.steps u.runs.fs c.asks (record { class = u.runs.class; args = u.runs.args; asks = u.runs.asks })
+
       ended_change : IsChangeDone words (Some look) now front back → ⊥
-      ended_change v = differ (Ended u.line how) (Changed v.q v.made v.edit) u.runs v.change (inr tt) (λ e. omega (arith, e))
+      ended_change v = no_change v.q v.made v.change
 
       ended_write_fault : IsWriteFault words (Some look) now front back → ⊥
-      ended_write_fault v = differ (Ended u.line how) (Changed v.q v.made v.edit) u.runs v.change (inr tt) (λ e. omega (arith, e))
+      ended_write_fault v = no_change v.q v.made v.change
 
 -- ---- a read fault
 
@@ -119,9 +124,6 @@ usage = (usage_done, usage_refused, (λ words look new now before after front ba
 
 pub missing : Excludes IsMissing IsDone × Excludes IsMissing IsRefused × Excludes IsMissing IsWriteFault
 missing = (missing_done, missing_refused, missing_write_fault)
-
-pub refused : Excludes IsRefused IsChangeDone × Excludes IsRefused IsWriteFault
-refused = (refused_done, refused_write_fault)
 
 -- a run that ended so
 module _ (how : End) where

@@ -61,7 +61,7 @@ small_at [] k x h e = absurd (cc)
 small_at (y ∷ ys) zero x (room, more) e = let same : y ≡ x = cc in subst (λ (z : List ℕ). length z ≤ 1048576) same room
 small_at (y ∷ ys) (suc k) x (room, more) e = small_at ys k x more e
 
-low_at : (texts : List (List ℕ)) (k : ℕ) (x : List ℕ) → slice_get texts k ≡ Some x → k < length texts
+pub low_at : (texts : List (List ℕ)) (k : ℕ) (x : List ℕ) → slice_get texts k ≡ Some x → k < length texts
 low_at [] k x e = absurd (cc)
 low_at (y ∷ ys) zero x e = omega arith
 low_at (y ∷ ys) (suc k) x e = let h = low_at ys k x e in omega arith

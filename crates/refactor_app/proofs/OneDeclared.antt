@@ -1,30 +1,20 @@
 -- The files of a program declare one program, whose declarations break one rule or none.
 use Rattle.std.proofs.Common.{◌≡◌, ℕ, ◌⊎◌, inl, inr, List, [], ◌∷◌, take, drop, Some, refl, sym, ◌∙◌, ap, subst, arith}
-use Rattle.java_tree.specs.Names.{IsTable, with_text}
-use Rattle.java_tree.proofs.Tables.{with_text_table}
+use Rattle.java_tree.specs.Names.{IsTable}
 use Rattle.java_tree.specs.Plain.{SourceUnit}
 use Rattle.java_tree.specs.declared.fault.Broken.{Broken}
 use Rattle.java_tree.specs.declared.fault.Family.{Family}
 use Rattle.java_tree.specs.declared.fault.Family.TheVariants as family
 use Rattle.rule_order.specs.declared.Breach.{Breach}
 use Rattle.rule_order.specs.First.{Breaches, IsBefore, IsNone, IsFirstOf}
-use Rattle.built_in_types.specs.BuiltIns.{texts, with_texts, with_words}
+use Rattle.built_in_types.specs.BuiltIns.{with_words}
 use Rattle.class_world.specs.declared.world.World.{World}
 use Rattle.decl_table.specs.Program.{Program, IsRefusal, IsProgramWorld}
 use Rattle.decl_table.proofs.Once as once
+use Rattle.checked_files.proofs.Tables.{words_table}
 use Rattle.member_table.specs.Table.{MemberBreaches}
-use Rattle.refactor_app.specs.Declarations.{IsOfFiles, AreDeclared, IsMemberRefusal, IsBroken}
+use Rattle.checked_files.specs.Declarations.{IsOfFiles, AreDeclared, IsMemberRefusal, IsBroken}
 use Rattle.member_table.proofs.SameMembers.{AreAlike, broken_alike}
-
--- ---- the table of names
-
-texts_table : (ts names : List (List ℕ)) → IsTable names → IsTable (with_texts ts names)
-unfolding with_texts
-texts_table [] names is = is
-texts_table (t ∷ ts) names is = texts_table ts (with_text t names) (with_text_table t names is)
-
-pub words_table : (names : List (List ℕ)) → IsTable names → IsTable (with_words names)
-words_table names is = texts_table texts names is
 
 -- ---- the first rule on members
 

@@ -7,23 +7,21 @@ use Rattle.java_tree.specs.Plain.{SourceUnit}
 use Rattle.java_tree.specs.declared.fault.Broken.{Broken}
 use Rattle.tool_files.specs.Told.{Look}
 use Rattle.edit_writer.specs.Places.{place_at}
-use Rattle.edit_writer.specs.declared.edits.Edit.{Edit}
 use Rattle.source_files.specs.Held.{AreHeld, Stop, StopsAt, Missing, Failed, TooLarge, TooMuch}
 use Rattle.source_files.specs.Trees.{AreTrees, BreaksAt, Fault, Lexical, Tokens, LeftOut, NoTree}
 use Rattle.command_words.specs.Rules.{IsLowest}
 use Rattle.report_text.specs.Report.{refused, refused_at}
-use Rattle.refactor_app.specs.Words.{Files, Request, inputs, IsAlone, Asks, AsksSteps, Uses, AskOther}
-use Rattle.refactor_app.specs.Verdicts.{Refuses, Changes, IsNotSmall}
-use Rattle.refactor_app.specs.Declarations.{AreDeclared, IsBroken, broken_line}
-use Rattle.refactor_app.specs.Refusals.{most_files, most_steps, AsksFew, AsksGeneral, HasRead, HasParsed, IsAt, IsLarge, Tells, Refusal}
+use Rattle.refactor_app.specs.Words.{Files, inputs, AsksSteps, Uses, AskOther}
+use Rattle.checked_files.specs.Declarations.{AreDeclared, IsBroken}
+use Rattle.refactor_app.specs.Declarations.{broken_line}
+use Rattle.refactor_app.specs.Refusals.{most_files, most_steps, AsksFew, HasRead, HasParsed, IsAt, Tells, Refusal}
 use Rattle.refactor_app.specs.Refusals as refusal
-use Rattle.refactor_app.specs.Outcomes.{Outcome, Misused, Absent, Refused, Changed, Judged, Ended, ComesTo, IsTreeless, AreTreeless, IsTypeRefusal, IsLargeRefusal, IsOfTypes}
-use Rattle.refactor_app.proofs.Asking.{one_request, one_files}
-use Rattle.refactor_app.proofs.OneSense.{lowest_or_asks, lowest_or_other, other_or_asks, change_or_check, change_or_run, one_lowest}
+use Rattle.refactor_app.specs.Outcomes.{Outcome, Misused, Absent, Refused, Changed, Listed, Judged, Ended, ComesTo, IsTreeless, AreTreeless, IsOfTypes}
+use Rattle.refactor_app.proofs.Asking.{one_files}
+use Rattle.refactor_app.proofs.OneSense.{lowest_or_asks, lowest_or_other, other_or_asks, one_lowest}
 use Rattle.refactor_app.proofs.OneReading.{one_held, held_or_stops, one_stop}
 use Rattle.refactor_app.proofs.OneParse.{IsNoTree, AreAlike, trees_or_breaks, one_break, one_trees, trees_table}
 use Rattle.refactor_app.proofs.OneDeclared.{one_rule, broken_or_declared}
-use Rattle.refactor_app.proofs.OneVerdict.{one_refusal, refusal_speaks, not_both, one_change}
 
 -- ---- what each way of words with files comes to
 
@@ -34,22 +32,11 @@ TellsStop fs k Failed o = ⊥
 TellsStop fs k TooLarge o = o ≡ Refused (refused (codes "L2"))
 TellsStop fs k TooMuch o = o ≡ Refused (refused (codes "L3"))
 
--- of the only file, with this text
-data Alone (q : Request) (text : List ℕ) : Outcome → Type 0 where
-  refuses : {line : List ℕ} → Refuses q text line → Alone q text (Refused line)
-  changes : {made : List ℕ} {e : Edit} → Changes q text made e → Alone q text (Changed q made e)
-
--- of files whose declarations break no rule
-data Done (words : List (List ℕ)) (look : Look) (texts : List (List ℕ)) : Outcome → Type 0 where
-  large : (q : Request) {o : Outcome} → Asks words q → IsLarge q texts → IsOfTypes words (Some look) o → Done words look texts o
-  single : (q : Request) (text : List ℕ) {o : Outcome} → Asks words q → IsAlone q → texts ≡ text ∷ [] → Alone q text o → Done words look texts o
-  types : {o : Outcome} → ((q : Request) → Asks words q → ⊥) → IsOfTypes words (Some look) o → Done words look texts o
-
 -- of files with trees
 abbrev Sound : List (List ℕ) → Look → Files → List (List ℕ) → List (List ℕ) → List SourceUnit → Outcome → Type 0
 Sound words look fs texts names units o =
     ((b : Broken) × IsBroken (length fs.users) names units b × (o ≡ Refused (broken_line fs texts units b)))
-    ⊎ (AreDeclared (length fs.users) names units × Done words look texts o)
+    ⊎ (AreDeclared (length fs.users) names units × IsOfTypes words (Some look) o)
 
 -- of files with these texts
 abbrev Parsed : List (List ℕ) → Look → Files → List (List ℕ) → Outcome → Type 0
@@ -85,15 +72,6 @@ on_parsed : (words : List (List ℕ)) (look : Look) (fs : Files) (texts names : 
     → Sound words look fs texts names units o → Sense words look o
 on_parsed words look fs texts names units o h sound = asks fs h.read.asks.uses (inr (inr (h.read.asks, inr (texts, h.read.held, inr (units, names, h.trees, sound)))))
 
-by_general : (words : List (List ℕ)) (look : Look) (fs : Files) (texts : List (List ℕ)) (o : Outcome) → AsksGeneral words fs texts → IsOfTypes words (Some look) o → Done words look texts o
-by_general words look fs texts o (inl check) told = types (λ q change. change_or_check words q fs change check) told
-by_general words look fs texts o (inr (inl (n, run))) told = types (λ q change. change_or_run words q n fs change run) told
-by_general words look fs texts o (inr (inr (q, is, change, large_is))) told = large q change large_is told
-
--- of files that are run
-by_run : (words : List (List ℕ)) (look : Look) (fs : Files) (texts : List (List ℕ)) (n : ℕ) (o : Outcome) → AsksSteps words fs n → IsOfTypes words (Some look) o → Done words look texts o
-by_run words look fs texts n o run told = by_general words look fs texts o (inr (inl (n, run))) told
-
 by_refusal : (words : List (List ℕ)) (look : Look) (line : List ℕ) → Refusal words (Some look) line → Sense words look (Refused line)
 by_refusal words look line (refusal.Refusal.n1 h) = other h refl
 by_refusal words look line (refusal.Refusal.l1 fs h many) = asks fs h (inl (many, refl))
@@ -102,30 +80,23 @@ by_refusal words look line (refusal.Refusal.l2 fs k few stops) = asks fs few.use
 by_refusal words look line (refusal.Refusal.l3 fs k few stops) = asks fs few.uses (inr (inr (few, inl (k, TooMuch, stops, refl))))
 by_refusal words look line (refusal.Refusal.broken fs texts k f read breaks tells) = asks fs read.asks.uses (inr (inr (read.asks, inr (texts, read.held, inl (k, f, line, breaks, tells, refl)))))
 by_refusal words look line (refusal.Refusal.declared fs texts names units b parsed broken) = on_parsed words look fs texts names units _ parsed (inl (b, broken, refl))
-by_refusal words look line (refusal.Refusal.checked fs texts names units rule general h broken) =
-    let told : IsTypeRefusal words (Some look) (broken_line fs texts units rule) = record { fs = fs; texts = texts; names = names; units = units; rule = rule; asks = general; declared = h; broken = broken; is = refl } in
-    on_parsed words look fs texts names units _ h.parsed (inr (h.declared, by_general words look fs texts (Refused (broken_line fs texts units rule)) general (inl told)))
-by_refusal words look line (refusal.Refusal.n2 q texts names units change large_is h) =
-    let told : IsLargeRefusal words (Some look) (refused (codes "N2")) = record { q = q; texts = texts; names = names; units = units; asks = change; large = large_is; checked = h; is = refl } in
-    on_parsed words look q.files texts names units _ h.declared.parsed (inr (h.declared.declared, large q change large_is (inr (inl told))))
+by_refusal words look line (refusal.Refusal.checked fs texts names units rule h broken) =
+    on_parsed words look fs texts names units _ h.parsed
+    (inr (h.declared, inl (record { fs = fs; texts = texts; names = names; units = units; rule = rule; declared = h; broken = broken; is = refl })))
 by_refusal words look line (refusal.Refusal.s24 h) =
-    let run : AsksSteps words h.fs h.steps = record { class = h.class; args = h.args; asks = h.asks } in
-    on_parsed words look h.fs h.texts h.names h.units _ h.checked.declared.parsed
-    (inr (h.checked.declared.declared, by_run words look h.fs h.texts h.steps (Refused (refused (codes "S24"))) run (inr (inr (h, refl)))))
-by_refusal words look line (refusal.Refusal.refuses q text names u change h is r) =
-    on_parsed words look q.files (text ∷ []) names (u ∷ []) _ h.parsed (inr (h.declared, single q text change is refl (refuses r)))
+    on_parsed words look h.fs h.texts h.names h.units _ h.checked.declared.parsed (inr (h.checked.declared.declared, inr (inr (h, refl))))
+by_refusal words look line (refusal.Refusal.against q texts names units a h) =
+    on_parsed words look q.files texts names units _ h.checked.declared.parsed
+    (inr (h.checked.declared.declared, inr (inl (record { q = q; texts = texts; names = names; units = units; against = a; stands = h; is = refl }))))
 
 sense : (words : List (List ℕ)) (look : Look) (o : Outcome) → ComesTo words (Some look) o → Sense words look o
 sense words look (Misused rule) h = misuse rule h refl
 sense words look (Absent name) h = asks h.fs h.asks.uses (inr (inr (h.asks, inl (h.file, Missing, h.absent, (name, h.named, refl)))))
 sense words look (Refused line) h = by_refusal words look line h
-sense words look (Changed q made e) h =
-    on_parsed words look q.files (h.text ∷ []) h.names (h.unit ∷ []) (Changed q made e) h.declared.parsed
-    (inr (h.declared.declared, single q h.text h.asks h.alone refl (changes h.changes)))
-sense words look (Judged report) h = on_parsed words look h.fs h.texts h.names h.units (Judged report) h.declared.parsed (inr (h.declared.declared, by_general words look h.fs h.texts (Judged report) (inl h.asks) h))
-sense words look (Ended report how) h =
-    let run : AsksSteps words h.fs h.steps = record { class = h.class; args = h.args; asks = h.asks } in
-    on_parsed words look h.fs h.texts h.names h.units (Ended report how) h.declared.parsed (inr (h.declared.declared, by_run words look h.fs h.texts h.steps (Ended report how) run h))
+sense words look (Changed q made) h = on_parsed words look q.files h.texts h.names h.units (Changed q made) h.checked.declared.parsed (inr (h.checked.declared.declared, h))
+sense words look (Listed q types) h = on_parsed words look q.files h.texts h.names h.units (Listed q types) h.checked.declared.parsed (inr (h.checked.declared.declared, h))
+sense words look (Judged report) h = on_parsed words look h.fs h.texts h.names h.units (Judged report) h.declared.parsed (inr (h.declared.declared, h))
+sense words look (Ended report how) h = on_parsed words look h.fs h.texts h.names h.units (Ended report how) h.declared.parsed (inr (h.declared.declared, h))
 
 -- ---- each comes to one
 
@@ -141,54 +112,17 @@ one_told fs k TooMuch a b g h = g ∙ sym h
 is_read : (fs : Files) (k : ℕ) (s : Stop) (o : Outcome) → TellsStop fs k s o → s ≢ Failed
 is_read fs k s o tells e = subst (λ (s : Stop). TellsStop fs k s o) e tells
 
-one_alone : (q : Request) (text : List ℕ) (a b : Outcome) → Alone q text a → Alone q text b → a ≡ b
-one_alone q text a b (refuses {line = x} r) (refuses {line = y} s) = ap Refused (one_refusal q text x y r s)
-one_alone q text a b (refuses {line = x} r) (changes {made = m} {e = e} c) = absurd (not_both q text x m e r c)
-one_alone q text a b (changes {made = m} {e = e} c) (refuses {line = x} r) = absurd (not_both q text x m e r c)
-one_alone q text a b (changes {made = m} {e = d} c) (changes {made = n} {e = e} h) = let same = one_change q text m n d e c h in rw (same.0, same.1) refl
-
--- a small program that has the type answers a change
-not_large : (q : Request) (text : List ℕ) (o : Outcome) → Alone q text o → IsNotSmall q text → ⊥
-not_large q text o (refuses {line = line} r) none = let s = refusal_speaks q text line r in none s.0 s.2.small s.1 s.2.named
-not_large q text o (changes c) none = none c.old c.speaks.small c.target c.speaks.named
-
 -- the same, or both what a check says of types
 abbrev AreAsOne : List (List ℕ) → Look → Outcome → Outcome → Type 0
 AreAsOne words look a b = (a ≡ b) ⊎ (IsOfTypes words (Some look) a × IsOfTypes words (Some look) b)
 
 module _ (words : List (List ℕ)) (look : Look) (fs : Files) (texts names : List (List ℕ)) (units : List SourceUnit) (table : IsTable names) where
-  both_alone : (q r : Request) (x y : List ℕ) (a b : Outcome) → Asks words q → Asks words r → texts ≡ x ∷ [] → texts ≡ y ∷ [] → Alone q x a → Alone r y b → a ≡ b
-  both_alone q r x y a b change again are so h g =
-      let request = one_request words r q again change in
-      let both : y ∷ [] ≡ x ∷ [] = sym so ∙ are in
-      let same : y ≡ x = cc in
-      one_alone q x a b h (subst (λ (q : Request). Alone q x b) request (subst (λ (text : List ℕ). Alone r text b) same g))
-
-  large_or_single : (q r : Request) (y : List ℕ) (b : Outcome) → Asks words q → Asks words r → IsLarge q texts → IsAlone r → texts ≡ y ∷ [] → Alone r y b → ⊥
-  large_or_single q r y b change again (inl none) is are h = none (subst IsAlone (one_request words r q again change) is)
-  large_or_single q r y b change again (inr (x, alone, so, none)) is are h =
-      let request = one_request words q r change again in
-      let both : x ∷ [] ≡ y ∷ [] = sym so ∙ are in
-      let same : x ≡ y = cc in
-      not_large r y b h (subst (λ (q : Request). IsNotSmall q y) request (subst (λ (text : List ℕ). IsNotSmall q text) same none))
-
-  one_done : (a b : Outcome) → Done words look texts a → Done words look texts b → AreAsOne words look a b
-  one_done a b (large q change is told) (large r again so says) = inr (told, says)
-  one_done a b (large q change is told) (single r y again alone are h) = absurd (large_or_single q r y b change again is alone are h)
-  one_done a b (large q change is told) (types none says) = absurd (none q change)
-  one_done a b (single q x change alone are h) (large r again so says) = absurd (large_or_single r q x a again change so alone are h)
-  one_done a b (single q x {o = v} change is are h) (single r y {o = w} again so were g) = inl (both_alone q r x y v w change again are were h g)
-  one_done a b (single q x change is are h) (types none told) = absurd (none q change)
-  one_done a b (types none told) (large r again so says) = absurd (none r again)
-  one_done a b (types none told) (single r y again is are h) = absurd (none r again)
-  one_done a b (types none told) (types neither says) = inr (told, says)
-
   one_sound : (a b : Outcome) → Sound words look fs texts names units a → Sound words look fs texts names units b → AreAsOne words look a b
   one_sound a b (inl (x, broken, is)) (inl (y, broken', so)) =
       inl (is ∙ ap (λ (b : Broken). Refused (broken_line fs texts units b)) (one_rule (length fs.users) names units table x y broken broken') ∙ sym so)
   one_sound a b (inl (x, broken, is)) (inr (declared, h)) = absurd (broken_or_declared (length fs.users) names units table x broken declared)
   one_sound a b (inr (declared, h)) (inl (x, broken, is)) = absurd (broken_or_declared (length fs.users) names units table x broken declared)
-  one_sound a b (inr (declared, h)) (inr (also, g)) = one_done a b h g
+  one_sound a b (inr (declared, h)) (inr (also, g)) = inr (h, g)
 
 one_at : (rule : List ℕ) (fs : Files) (texts : List (List ℕ)) (k at : ℕ) (a b : List ℕ) → IsAt rule fs texts k at a → IsAt rule fs texts k at b → a ≡ b
 one_at rule fs texts k at a b x y =

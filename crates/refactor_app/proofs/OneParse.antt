@@ -16,7 +16,7 @@ use Rattle.java_parse_decl.specs.Found.{IsUnit}
 use Rattle.java_parse_decl.proofs.Answered.{one}
 use Rattle.left_out.specs.Rules.{rule_of, IsFirst}
 use Rattle.source_files.specs.Trees.{AreAllowed, AreTrees, BreaksAt, BreaksHere, Fault, Lexical, Tokens, LeftOut, NoTree}
-use Rattle.refactor_app.proofs.Smalls.{interned_table}
+use Rattle.refactor_app.proofs.Tables.{interned_table}
 
 abbrev pub IsNoTree : Fault → Type 0
 IsNoTree (NoTree at) = Unit {0}

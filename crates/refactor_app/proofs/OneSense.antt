@@ -6,7 +6,7 @@ use Rattle.command_words.specs.declared.table.Command.{Command}
 use Rattle.command_words.specs.declared.table.Command.TheVariants as c
 use Rattle.command_words.specs.Table.{word_of, parts_of}
 use Rattle.command_words.specs.Rules.{Meets, IsLowest}
-use Rattle.refactor_app.specs.Words.{Files, Request, Asks, AsksCheck, AsksSteps, Uses, AskOther}
+use Rattle.refactor_app.specs.Words.{Aim, Become, Types, aim_command, Files, Request, Asks, AsksCheck, AsksSteps, Uses, AskOther}
 
 -- the command whose word begins with this byte
 abbrev command_at : ℕ → Command
@@ -56,7 +56,7 @@ record Meet (words : List (List ℕ)) : Type 0 where
   meets : (n : ℕ) → Meets command (parts_of rest) n
 
 asked : (words : List (List ℕ)) (fs : Files) → Uses words fs → Meet words
-asked words fs (inl (q, h, is)) = record { command = c.Generalize; rest = h.rest; are = h.are; meets = h.meets }
+asked words fs (inl (q, h, is)) = record { command = aim_command q.aim; rest = h.rest; are = h.are; meets = h.meets }
 asked words fs (inr (inl h)) = record { command = c.Check; rest = h.rest; are = h.are; meets = h.meets }
 asked words fs (inr (inr (n, h))) = record { command = c.Run; rest = h.asks.rest; are = h.asks.are; meets = h.asks.meets }
 
@@ -73,16 +73,28 @@ lowest_or_asks words n fs low h = broken_or_met words n low (asked words fs h)
 pub lowest_or_other : (words : List (List ℕ)) (n : ℕ) → IsLowest words n → AskOther words → ⊥
 lowest_or_other words n low h = broken_or_met words n low (asked_other words h)
 
+other_aim : (words : List (List ℕ)) (other : AskOther words) (a : Aim) → other.command ≡ aim_command a → ⊥
+other_aim words other (Become out ty) e = other.no_change e
+other_aim words other Types e = other.no_types e
+
 pub other_or_asks : (words : List (List ℕ)) (fs : Files) → AskOther words → Uses words fs → ⊥
-other_or_asks words fs other (inl (q, h, is)) = other.no_change (one_split other.command c.Generalize other.rest h.rest (sym other.are ∙ h.are)).0
+other_or_asks words fs other (inl (q, h, is)) = other_aim words other q.aim (one_split other.command (aim_command q.aim) other.rest h.rest (sym other.are ∙ h.are)).0
 other_or_asks words fs other (inr (inl h)) = other.no_check (one_split other.command c.Check other.rest h.rest (sym other.are ∙ h.are)).0
 other_or_asks words fs other (inr (inr (n, h))) = other.no_run (one_split other.command c.Run other.rest h.asks.rest (sym other.are ∙ h.asks.are)).0
 
+not_check : (a : Aim) → aim_command a ≡ c.Check → ⊥
+not_check (Become out ty) e = absurd (cc)
+not_check Types e = absurd (cc)
+
+not_run : (a : Aim) → aim_command a ≡ c.Run → ⊥
+not_run (Become out ty) e = absurd (cc)
+not_run Types e = absurd (cc)
+
 pub change_or_check : (words : List (List ℕ)) (q : Request) (fs : Files) → Asks words q → AsksCheck words fs → ⊥
-change_or_check words q fs g h = let same = (one_split c.Generalize c.Check g.rest h.rest (sym g.are ∙ h.are)).0 in absurd (cc)
+change_or_check words q fs g h = not_check q.aim (one_split (aim_command q.aim) c.Check g.rest h.rest (sym g.are ∙ h.are)).0
 
 pub change_or_run : (words : List (List ℕ)) (q : Request) (n : ℕ) (fs : Files) → Asks words q → AsksSteps words fs n → ⊥
-change_or_run words q n fs g h = let same = (one_split c.Generalize c.Run g.rest h.asks.rest (sym g.are ∙ h.asks.are)).0 in absurd (cc)
+change_or_run words q n fs g h = not_run q.aim (one_split (aim_command q.aim) c.Run g.rest h.asks.rest (sym g.are ∙ h.asks.are)).0
 
 pub check_or_run : (words : List (List ℕ)) (fs : Files) (n : ℕ) (gs : Files) → AsksCheck words fs → AsksSteps words gs n → ⊥
 check_or_run words fs n gs g h = let same = (one_split c.Check c.Run g.rest h.asks.rest (sym g.are ∙ h.asks.are)).0 in absurd (cc)

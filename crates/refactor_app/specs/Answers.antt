@@ -1,33 +1,36 @@
 -- What an answer of `refactor` says of the words, of what the files held and hold, and of what was put.
-use Rattle.std.specs.Prelude.{◌≡◌, ℕ, ◌⊎◌, List, [], ◌∷◌, Option, Some, slice_get}
+use Rattle.std.specs.Prelude.{◌≡◌, ℕ, ◌⊎◌, List, Option, Some, slice_get}
 use Rattle.java_tree.specs.Plain.{SourceUnit}
-use Rattle.tool_files.specs.Told.{Look, Rose, SameBut, WhereTold, PutsAt, Appends, AppendsSome}
+use Rattle.tool_files.specs.Told.{Look, Rose, Appends, AppendsSome}
 use Rattle.command_words.specs.Rules.{IsLowest}
-use Rattle.edit_writer.specs.declared.edits.Edit.{Edit}
+use Rattle.changed_files.specs.declared.files.NewFiles.{NewFiles}
 use Rattle.core_meaning.specs.declared.values.End.{End}
 use Rattle.core_meaning.specs.declared.values.End.TheVariants as end
 use Rattle.source_files.specs.Held.{StopsAt, Missing, Failed}
 use Rattle.refactor_app.specs.declared.status.Status.{Status}
 use Rattle.refactor_app.specs.declared.status.Status.TheVariants as s
-use Rattle.refactor_app.specs.Words.{Files, Request, inputs, IsAlone, Asks, out_name}
-use Rattle.report_text.specs.Report.{usage, edit_report, missing, read_fault, write_fault}
-use Rattle.refactor_app.specs.Verdicts.{Changes}
-use Rattle.refactor_app.specs.Declarations.{AreDeclared}
-use Rattle.refactor_app.specs.Refusals.{AsksFew, HasDeclared, Refusal}
+use Rattle.refactor_app.specs.Words.{Files, Request, inputs, Asks}
+use Rattle.report_text.specs.Report.{usage, change_report, types_report, missing, read_fault, write_fault}
+use Rattle.refactor_app.specs.Changes.{IsAnswered, Said, Changed, Listed, out_names, user_edits, user_texts}
+use Rattle.refactor_app.specs.Writes.{Writes, FailsAt}
+use Rattle.refactor_app.specs.Refusals.{AsksFew, HasChecked, Refusal}
 use Rattle.refactor_app.specs.Checking.{Passes}
 use Rattle.refactor_app.specs.Running.{Runs}
 
--- the change of a file, its only one, that the words ask for
-pub record IsChange (words : List (List ℕ)) (old : Option Look) (q : Request) (made : List ℕ) (edit : Edit) : Type 0 where
-  pub text : List ℕ
+-- what is said of a place of files that break no rule, about which the words ask
+pub record IsSaid (words : List (List ℕ)) (old : Option Look) (q : Request) (said : Said) : Type 0 where
+  pub texts : List (List ℕ)
   pub names : List (List ℕ)
-  pub unit : SourceUnit
+  pub units : List SourceUnit
   pub asks : Asks words q
-  pub declared : HasDeclared words old q.files (text ∷ []) names (unit ∷ [])
-  pub alone : IsAlone q
-  pub changes : Changes q text made edit
-  -- The new file's declarations break no rule either, and the members of its types none.
-  pub still_declared : AreDeclared 1 changes.program.names (changes.program.unit ∷ [])
+  pub checked : HasChecked words old q.files texts names units
+  pub says : IsAnswered q texts names units checked.declared.declared.program checked.declared.declared.world checked.core checked.operations said
+
+abbrev pub IsChange : List (List ℕ) → Option Look → Request → NewFiles → Type 0
+IsChange words old q new = IsSaid words old q (Changed new)
+
+abbrev pub AreTypes : List (List ℕ) → Option Look → Request → (types : List (List ℕ)) → Type 0
+AreTypes words old q types = IsSaid words old q (Listed types)
 
 -- the contents before and after, and what was put before and after
 module _ (words : List (List ℕ)) (old new : Option Look) (before after : Option (List ℕ)) where
@@ -45,14 +48,13 @@ module _ (words : List (List ℕ)) (old new : Option Look) (before after : Optio
     pub report : Puts (usage rule)
     pub nothing : NothingWritten
 
-  -- Done: the new file holds the text of the edit, every other name is as before, and the report tells the edit.
+  -- Done: each of the user's files is written with its edits, and the report tells these.
   pub record IsChangeDone : Type 0 where
     pub q : Request
-    pub made : List ℕ
-    pub edit : Edit
-    pub change : IsChange words old q made edit
-    pub written : WhereTold old new (PutsAt (out_name q) made)
-    pub report : Puts (edit_report q.file edit)
+    pub made : NewFiles
+    pub change : IsChange words old q made
+    pub written : Writes (out_names q) (user_texts q made) old new
+    pub report : Puts (change_report q.files.users (user_edits q made))
 
   -- Done: the files that are checked break no rule.
   pub record IsCheckDone : Type 0 where
@@ -72,8 +74,16 @@ module _ (words : List (List ℕ)) (old new : Option Look) (before after : Optio
   abbrev pub IsRunDone : Type 0
   IsRunDone = IsRunEnded end.Normal
 
+  -- Done: these are the types to which a place may go.
+  pub record IsTypesDone : Type 0 where
+    pub q : Request
+    pub types : List (List ℕ)
+    pub are : AreTypes words old q types
+    pub report : Puts (types_report types)
+    pub nothing : NothingWritten
+
   abbrev pub IsDone : Type 0
-  IsDone = IsChangeDone ⊎ IsCheckDone ⊎ IsRunDone
+  IsDone = IsChangeDone ⊎ IsCheckDone ⊎ IsRunDone ⊎ IsTypesDone
 
   -- the run ended with a thrown object of this class
   pub record IsThrew : Type 0 where
@@ -113,14 +123,14 @@ module _ (words : List (List ℕ)) (old new : Option Look) (before after : Optio
     pub report : Puts (read_fault name)
     pub nothing : NothingWritten
 
-  -- the write of the new file failed; every other name is as before
+  -- the write of a new file failed
   pub record IsWriteFault : Type 0 where
     pub q : Request
-    pub made : List ℕ
-    pub edit : Edit
-    pub change : IsChange words old q made edit
-    pub others : WhereTold old new (SameBut (out_name q))
-    pub report : Puts (write_fault (out_name q))
+    pub made : NewFiles
+    pub change : IsChange words old q made
+    pub name : List ℕ
+    pub failed : FailsAt (out_names q) (user_texts q made) name old new
+    pub report : Puts (write_fault name)
 
   -- what would have become of the call, had the put of its report not failed
   abbrev pub IsOne : Type 0

@@ -1,29 +1,34 @@
 -- What words ask for, as the code has it.
 use Rattle.std.specs.Prelude.{◌≡◌, ℕ, List, ◌∷◌, drop, map}
 use Rattle.std.specs.String.{string_bytes}
-use Rattle.command_words.specs.Names.{IsIdentifier, IsNumber}
+use Rattle.command_words.specs.Names.{IsNumber}
 use Rattle.refactor_app.specs.declared.asked.Asked.{Asked}
 use Rattle.refactor_app.specs.declared.asked.AskedRun.{AskedRun}
 use Rattle.refactor_app.specs.declared.asked.Inputs.{Inputs}
+use Rattle.refactor_app.specs.declared.asked.Want.{Want}
+use Rattle.refactor_app.specs.declared.asked.Want.TheVariants as want
 use Rattle.refactor_app.specs.declared.asked.Task.{Task}
 use Rattle.refactor_app.specs.declared.asked.Task.TheVariants as task
-use Rattle.refactor_app.specs.Words.{Files, Request, Asks, AsksCheck, AsksRun}
+use Rattle.refactor_app.specs.Words.{Aim, Become, Types, Files, Request, Asks, AsksCheck, AsksRun}
 
 abbrev pub files_of : Inputs → Files
 files_of i = record { users = map string_bytes i.users.now; libs = map string_bytes i.libs.now }
 
+abbrev pub aim_of : Want → Aim
+aim_of (want.Become out ty) = Become out.now ty.now
+aim_of want.Types = Types
+
 abbrev pub request_of : Asked → Request
 request_of a = record {
-  out = a.out.now;
+  aim = aim_of a.want;
   file = a.file.now;
   line = a.line;
   col = a.col;
-  ty = a.ty.now;
   files = files_of a.inputs;
 }
 
 abbrev pub task_files : Task → Files
-task_files (task.Change a) = files_of a.inputs
+task_files (task.Place a) = files_of a.inputs
 task_files (task.Check i) = files_of i
 task_files (task.Run r) = files_of r.inputs
 
@@ -51,11 +56,6 @@ task_steps (task.Run r) = r.steps
 task_steps _ = 0
 
 abbrev pub AsksTask : List (List ℕ) → Task → Type 0
-AsksTask words (task.Change a) = Asks words (request_of a)
+AsksTask words (task.Place a) = Asks words (request_of a)
 AsksTask words (task.Check i) = AsksCheck words (files_of i)
 AsksTask words (task.Run r) = AsksRunOf words r
-
--- a type to which something is changed is an identifier
-abbrev pub HasType : Task → Type 0
-HasType (task.Change a) = IsIdentifier a.ty.now
-HasType _ = Unit {0}

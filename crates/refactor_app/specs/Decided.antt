@@ -1,47 +1,58 @@
--- A verdict, as the code has it.
-use Rattle.std.specs.Prelude.{◌≡◌, ℕ, List}
+-- A verdict on a question about a place, as the code has it.
+use Rattle.std.specs.Prelude.{◌≡◌, ℕ, List, [], ◌∷◌, ◌++◌, length, map, take}
 use Rattle.std.specs.String.{string_bytes}
-use Rattle.command_words.specs.Names.{IsIdentifier}
-use Rattle.edit_writer.specs.declared.edits.Edit.{Edit}
+use Rattle.java_tree.specs.Plain.{SourceUnit}
+use Rattle.java_tree.specs.View.{unit_plain}
+use Rattle.java_core.specs.View.{program_plain}
 use Rattle.class_world.specs.declared.world.World.{World}
-use Rattle.small_world.specs.Subclasses.{IsClassTree}
-use Rattle.java_typing.specs.WorldOf.{world_of}
-use Rattle.generalize_type.specs.declared.small.SmallEdit.{SmallEdit}
-use Rattle.generalize_type.specs.Plans.{IsPlan}
-use Rattle.report_text.specs.Report.{edit_report, write_fault}
-use Rattle.refactor_app.specs.declared.decide.Changed.{Changed}
+use Rattle.decl_table.specs.Program.{Program}
+use Rattle.type_facts.specs.Facts.{Facts}
+use Rattle.checker.specs.declared.check.CheckedProgram.{CheckedProgram}
+use Rattle.changed_files.specs.declared.files.NewFiles.{NewFiles}
+use Rattle.generalize_declared.specs.declared.asked.CheckedSource.{CheckedSource}
+use Rattle.generalize_declared.specs.declared.asked.Wish.{Wish}
+use Rattle.report_text.specs.Report.{change_report, types_report, write_fault}
+use Rattle.refactor_app.specs.declared.decide.Output.{Output}
 use Rattle.refactor_app.specs.declared.decide.Verdict.{Verdict}
 use Rattle.refactor_app.specs.declared.decide.Verdict.TheVariants as v
-use Rattle.refactor_app.specs.Words.{Request, out_name}
-use Rattle.refactor_app.specs.Program.{Program, IsSmall, IsTypeNamed}
-use Rattle.refactor_app.specs.Verdicts.{Refuses, Changes, IsNotSmall, asked}
+use Rattle.refactor_app.specs.Words.{Files, Request}
+use Rattle.refactor_app.specs.Changes.{IsAnsweredBy, Said, Says, Stands, Changed, Listed, against_line, out_names, user_edits, user_texts}
 
-pub record IsChange (q : Request) (text : List ℕ) (c : Changed) : Type 0 where
-  pub edit : Edit
-  pub changes : Changes q text c.text.items edit
-  pub name : string_bytes c.name ≡ out_name q
-  pub report : string_bytes c.report ≡ edit_report q.file edit
-  pub fault : string_bytes c.fault ≡ write_fault (out_name q)
+pub record IsOutput (name text : List ℕ) (o : Output) : Type 0 where
+  pub named : string_bytes o.name ≡ name
+  pub holds : o.text ≡ text
+  pub fault : string_bytes o.fault ≡ write_fault name
 
-abbrev pub Decides : Request → List ℕ → Verdict → Type 0
-Decides q text (v.Refused line) = Refuses q text (string_bytes line)
-Decides q text (v.Changed c) = IsChange q text c
-Decides q text v.General = IsNotSmall q text
+-- a file for each name, with its text
+abbrev pub AreOutputs : (names texts : List (List ℕ)) → List Output → Type 0
+AreOutputs [] [] [] = Unit {0}
+AreOutputs (n ∷ ns) (t ∷ ts) (o ∷ os) = IsOutput n t o × AreOutputs ns ts os
+AreOutputs _ _ _ = ⊥
 
--- a refusal with this line
-abbrev pub IsLine : List ℕ → Verdict → Type 0
-IsLine line (v.Refused x) = string_bytes x ≡ line
-IsLine line (v.Changed c) = ⊥
-IsLine line v.General = ⊥
+abbrev pub Adds : (names texts : List (List ℕ)) → (old new : List Output) → Type 0
+Adds names texts old new = (more : List Output) × (new ≡ old ++ more) × AreOutputs names texts more
 
--- the edit is the one that the request asks of a small program
-pub record IsPlanned (q : Request) (text : List ℕ) (e : SmallEdit) : Type 0 where
-  pub program : Program
-  pub world : World
-  pub target : ℕ
-  pub small : IsSmall text program
-  pub named : IsTypeNamed program q.ty target
-  pub word : IsIdentifier q.ty
-  pub is_world : world ≡ world_of program.unit
-  pub tree : IsClassTree world
-  pub plan : IsPlan program.names text program.unit world (asked q) target e
+-- all new files of the user are to be written
+abbrev pub IsWritten : Request → NewFiles → Verdict → Type 0
+IsWritten q new (v.Refused line) = ⊥
+IsWritten q new (v.Listed report) = ⊥
+IsWritten q new (v.Changed outputs report) = AreOutputs (out_names q) (user_texts q new) outputs × (report.items ≡ change_report q.files.users (user_edits q new))
+
+-- of what is said
+abbrev pub IsVerdict : Request → (texts : List (List ℕ)) → List SourceUnit → Said → Verdict → Type 0
+IsVerdict q texts units (Stands a) (v.Refused line) = string_bytes line ≡ against_line q.files texts units a
+IsVerdict q texts units (Stands a) (v.Changed outputs report) = ⊥
+IsVerdict q texts units (Stands a) (v.Listed report) = ⊥
+IsVerdict q texts units (Changed new) x = IsWritten q new x
+IsVerdict q texts units (Listed types) (v.Refused line) = ⊥
+IsVerdict q texts units (Listed types) (v.Changed outputs report) = ⊥
+IsVerdict q texts units (Listed types) (v.Listed report) = string_bytes report ≡ types_report types
+
+-- what is said by facts of the files, and what is put of it
+abbrev pub SaysSo : Request → CheckedSource → Wish → ((ℕ → Facts) → Type 0) → Verdict → Type 0
+SaysSo q s x are v =
+    (a : Said) × ((fs : ℕ → Facts) → are fs → Says fs s x q.aim a) × IsVerdict q s.texts.now (map unit_plain s.units.now) a v
+
+abbrev pub Decides : Request → (texts table : List (List ℕ)) → List SourceUnit → Program → World → CheckedProgram → Verdict → Type 0
+Decides q texts table units p w c x =
+    (a : Said) × IsAnsweredBy q texts table units p w (program_plain c.core) c.operations a × IsVerdict q texts units a x

@@ -1,11 +1,9 @@
 pub mod Words
 pub mod Asked
-pub mod Program
-pub mod Verdicts
-pub mod Decided
-pub mod Small
 pub mod Declarations
-pub mod Judged
+pub mod Changes
+pub mod Writes
+pub mod Decided
 pub mod Refusals
 pub mod Checking
 pub mod Checked
@@ -14,4 +12,5 @@ pub mod Stops
 pub mod Answers
 pub mod Ran
 pub mod Course
+pub mod Written
 pub mod Outcomes

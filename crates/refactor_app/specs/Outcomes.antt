@@ -4,24 +4,27 @@ use Rattle.java_tree.specs.Names.{built_in_names}
 use Rattle.java_tree.specs.Plain.{SourceUnit}
 use Rattle.tool_files.specs.Told.{Look}
 use Rattle.command_words.specs.Rules.{IsLowest}
-use Rattle.edit_writer.specs.declared.edits.Edit.{Edit}
+use Rattle.changed_files.specs.declared.files.NewFiles.{NewFiles}
+use Rattle.generalize_declared.specs.declared.command.Against.{Against}
 use Rattle.core_meaning.specs.declared.values.End.{End}
 use Rattle.source_files.specs.Held.{StopsAt, Missing}
 use Rattle.source_files.specs.Trees.{BreaksAt, NoTree}
 use Rattle.java_tree.specs.declared.fault.Broken.{Broken}
 use Rattle.report_text.specs.Report.{refused}
-use Rattle.refactor_app.specs.Words.{Files, Request, inputs, Asks}
+use Rattle.refactor_app.specs.Words.{Files, Request, inputs}
+use Rattle.refactor_app.specs.Changes.{against_line}
 use Rattle.refactor_app.specs.Declarations.{broken_line}
-use Rattle.refactor_app.specs.Refusals.{AsksFew, AsksGeneral, HasChecked, HasNoMain, HasRead, HasDeclared, IsAt, IsCheckRefusal, IsLarge, Refusal}
+use Rattle.refactor_app.specs.Refusals.{AsksFew, HasAgainst, HasNoMain, HasRead, HasDeclared, IsAt, IsCheckRefusal, Refusal}
 use Rattle.refactor_app.specs.Checking.{Passes}
 use Rattle.refactor_app.specs.Running.{Runs}
-use Rattle.refactor_app.specs.Answers.{IsChange}
+use Rattle.refactor_app.specs.Answers.{AreTypes, IsChange}
 
 pub data Outcome : Type 0 where
   Misused : (rule : ℕ) → Outcome  -- U1 to U8
   Absent : (name : List ℕ) → Outcome
   Refused : (line : List ℕ) → Outcome
-  Changed : (q : Request) (made : List ℕ) (edit : Edit) → Outcome
+  Changed : (q : Request) (made : NewFiles) → Outcome
+  Listed : (q : Request) (types : List (List ℕ)) → Outcome
   Judged : (report : List ℕ) → Outcome
   Ended : (report : List ℕ) (how : End) → Outcome
 
@@ -37,7 +40,8 @@ abbrev pub ComesTo : List (List ℕ) → Option Look → Outcome → Type 0
 ComesTo words old (Misused rule) = IsLowest words rule
 ComesTo words old (Absent name) = IsFirstAbsent words old name
 ComesTo words old (Refused line) = Refusal words old line
-ComesTo words old (Changed q made edit) = IsChange words old q made edit
+ComesTo words old (Changed q made) = IsChange words old q made
+ComesTo words old (Listed q types) = AreTypes words old q types
 ComesTo words old (Judged report) = Passes words old report
 ComesTo words old (Ended report how) = Runs words old report how
 
@@ -61,29 +65,29 @@ pub record IsTypeRefusal (words : List (List ℕ)) (old : Option Look) (line : L
   pub names : List (List ℕ)
   pub units : List SourceUnit
   pub rule : Broken
-  pub asks : AsksGeneral words fs texts
   pub declared : HasDeclared words old fs texts names units
   pub broken : IsCheckRefusal declared.declared.program declared.declared.world rule
   pub is : line ≡ broken_line fs texts units rule
 
--- the line is N2, of a program that breaks no rule
-pub record IsLargeRefusal (words : List (List ℕ)) (old : Option Look) (line : List ℕ) : Type 0 where
+-- the line names what stands against a question about a place of a program that breaks no rule
+pub record IsChangeRefusal (words : List (List ℕ)) (old : Option Look) (line : List ℕ) : Type 0 where
   pub q : Request
   pub texts : List (List ℕ)
   pub names : List (List ℕ)
   pub units : List SourceUnit
-  pub asks : Asks words q
-  pub large : IsLarge q texts
-  pub checked : HasChecked words old q.files texts names units
-  pub is : line ≡ refused (codes "N2")
+  pub against : Against
+  pub stands : HasAgainst words old q texts names units against
+  pub is : line ≡ against_line q.files texts units against
 
 -- the line is S24, of a run
 abbrev pub IsMainless : List (List ℕ) → Option Look → (line : List ℕ) → Type 0
 IsMainless words old line = HasNoMain words old × (line ≡ refused (codes "S24"))
 
--- what is said where a check was made: its answer, or N2, S24 or the report of a run behind it
+-- what is said where a check was made: its answer, or behind it what stands against a question, the change, the types, S24 or the report of a run
 abbrev pub IsOfTypes : List (List ℕ) → Option Look → Outcome → Type 0
-IsOfTypes words old (Refused line) = IsTypeRefusal words old line ⊎ IsLargeRefusal words old line ⊎ IsMainless words old line
+IsOfTypes words old (Refused line) = IsTypeRefusal words old line ⊎ IsChangeRefusal words old line ⊎ IsMainless words old line
+IsOfTypes words old (Changed q made) = IsChange words old q made
+IsOfTypes words old (Listed q types) = AreTypes words old q types
 IsOfTypes words old (Judged report) = Passes words old report
 IsOfTypes words old (Ended report how) = Runs words old report how
 IsOfTypes words old _ = ⊥

@@ -30,5 +30,5 @@ EndsRun before after faults now (Err e) status = (status ≡ s.NoMemory) × (aft
 -- the answer of a run is put that a check went before, or that of the check
 abbrev pub RunsSo : World → (table : List (List ℕ)) → AskedRun → Option (List ℕ) → Option (List ℕ) → ℕ → ℕ → CheckAnswer → Status → Type 0
 RunsSo w table r before after faults now (answer.Refused line) status = Ends before after faults now (string_bytes line) s.Refused status
-RunsSo w table r before after faults now (answer.Passed report core) status =
-    (x : Result RunAnswer NoMemory) × IfOk x (IsRunAnswer w table r (program_plain core)) × EndsRun before after faults now x status
+RunsSo w table r before after faults now (answer.Passed report checked) status =
+    (x : Result RunAnswer NoMemory) × IfOk x (IsRunAnswer w table r (program_plain checked.core)) × EndsRun before after faults now x status

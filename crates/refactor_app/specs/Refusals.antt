@@ -1,5 +1,5 @@
 -- The first rule that stands against words and files.
-use Rattle.std.specs.Prelude.{◌≡◌, ◌<◌, ◌≤◌, ◌⊎◌, ℕ, List, [], ◌∷◌, ◌++◌, length, Option, Some, slice_get, codes}
+use Rattle.std.specs.Prelude.{◌≡◌, ◌<◌, ◌≤◌, ℕ, List, ◌++◌, length, Option, Some, slice_get, codes}
 use Rattle.std.specs.Fmt.{decimal}
 use Rattle.java_tree.specs.Names.{built_in_names}
 use Rattle.java_tree.specs.Plain.{SourceUnit}
@@ -18,9 +18,11 @@ use Rattle.checker.specs.Checking.{IsIllFlowing, IsIllTyped, IsWellTyped}
 use Rattle.program_runs.specs.declared.answer.RunAnswer.TheVariants.{NoMain}
 use Rattle.program_runs.specs.Told.{IsRun}
 use Rattle.built_in_types.specs.BuiltIns.{with_words}
-use Rattle.refactor_app.specs.Words.{Files, Request, inputs, IsAlone, Asks, AsksCheck, AsksRun, AsksSteps, Uses, AskOther}
-use Rattle.refactor_app.specs.Verdicts.{IsNotSmall, Refuses}
-use Rattle.refactor_app.specs.Declarations.{AreDeclared, IsBroken, broken_line}
+use Rattle.generalize_declared.specs.declared.command.Against.{Against}
+use Rattle.refactor_app.specs.Words.{Files, Request, inputs, Asks, AsksRun, AsksSteps, Uses, AskOther}
+use Rattle.refactor_app.specs.Changes.{IsAnswered, Stands, against_line}
+use Rattle.checked_files.specs.Declarations.{AreDeclared, IsBroken}
+use Rattle.refactor_app.specs.Declarations.{broken_line}
 
 abbrev pub most_files : ℕ
 most_files = 256
@@ -75,14 +77,6 @@ pub data IsCheckRefusal (p : Program) (w : World) : Broken → Type 0 where
   types : (node rule : ℕ) → IsIllTyped p w node rule → IsCheckRefusal p w (type_rule node rule)
   flow : (node rule : ℕ) → IsIllFlowing p w node rule → IsCheckRefusal p w (flow_rule node rule)
 
--- a change that no small program answers: of several files, or of a text that is no small program with the type
-abbrev pub IsLarge : Request → (texts : List (List ℕ)) → Type 0
-IsLarge q texts = (IsAlone q → ⊥) ⊎ ((text : List ℕ) × IsAlone q × (texts ≡ text ∷ []) × IsNotSmall q text)
-
--- the words ask for a check, for a run, or for such a change
-abbrev pub AsksGeneral : (words : List (List ℕ)) → Files → (texts : List (List ℕ)) → Type 0
-AsksGeneral words fs texts = AsksCheck words fs ⊎ ((n : ℕ) × AsksSteps words fs n) ⊎ ((q : Request) × (q.files ≡ fs) × Asks words q × IsLarge q texts)
-
 -- files whose declarations break no rule, and that break none on types or flow
 pub record HasChecked (words : List (List ℕ)) (look : Option Look) (fs : Files) (texts : List (List ℕ)) (names : List (List ℕ)) (units : List SourceUnit) : Type 0 where
   pub declared : HasDeclared words look fs texts names units
@@ -103,8 +97,14 @@ pub record HasNoMain (words : List (List ℕ)) (look : Option Look) : Type 0 whe
   pub checked : HasChecked words look fs texts names units
   pub none : IsRun checked.declared.declared.world (with_words names) checked.core (length fs.users) class args steps NoMain
 
--- The rules in their order: N1, L1, L9, the sizes of the files, their texts, the declarations of the program, and then what stands against a change of a small program,
--- or the rules on types and on flow, and N2 or S24.
+-- the words ask about a place of such files, and this stands against it
+pub record HasAgainst (words : List (List ℕ)) (look : Option Look) (q : Request) (texts names : List (List ℕ)) (units : List SourceUnit) (a : Against) : Type 0 where
+  pub asks : Asks words q
+  pub checked : HasChecked words look q.files texts names units
+  pub against : IsAnswered q texts names units checked.declared.declared.program checked.declared.declared.world checked.core checked.operations (Stands a)
+
+-- The rules in their order: N1, L1, L9, the sizes of the files, their texts, the declarations of the program, the rules on types and on flow, and then S24 or what stands
+-- against a change.
 pub data Refusal (words : List (List ℕ)) (look : Option Look) : List ℕ → Type 0 where
   n1 : AskOther words → Refusal words look (refused (codes "N1"))
   l1 : (fs : Files) → Uses words fs → most_files < length (inputs fs) → Refusal words look (refused (codes "L1"))
@@ -115,10 +115,8 @@ pub data Refusal (words : List (List ℕ)) (look : Option Look) : List ℕ → T
       → Tells fs texts k fault line → Refusal words look line
   declared : (fs : Files) (texts names : List (List ℕ)) (units : List SourceUnit) (b : Broken) → HasParsed words look fs texts names units → IsBroken (length fs.users) names units b
       → Refusal words look (broken_line fs texts units b)
-  checked : (fs : Files) (texts names : List (List ℕ)) (units : List SourceUnit) (b : Broken) → AsksGeneral words fs texts → (h : HasDeclared words look fs texts names units)
+  checked : (fs : Files) (texts names : List (List ℕ)) (units : List SourceUnit) (b : Broken) → (h : HasDeclared words look fs texts names units)
       → IsCheckRefusal h.declared.program h.declared.world b → Refusal words look (broken_line fs texts units b)
-  n2 : (q : Request) (texts names : List (List ℕ)) (units : List SourceUnit) → Asks words q → IsLarge q texts → HasChecked words look q.files texts names units
-      → Refusal words look (refused (codes "N2"))
   s24 : HasNoMain words look → Refusal words look (refused (codes "S24"))
-  refuses : (q : Request) (text : List ℕ) (names : List (List ℕ)) (u : SourceUnit) {line : List ℕ} → Asks words q → HasDeclared words look q.files (text ∷ []) names (u ∷ [])
-      → IsAlone q → Refuses q text line → Refusal words look line
+  against : (q : Request) (texts names : List (List ℕ)) (units : List SourceUnit) (a : Against) → HasAgainst words look q texts names units a
+      → Refusal words look (against_line q.files texts units a)

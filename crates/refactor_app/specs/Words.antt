@@ -2,7 +2,7 @@
 use Rattle.std.specs.Prelude.{◌≡◌, ◌≢◌, ◌⊎◌, ℕ, List, [], ◌∷◌, ◌++◌, drop}
 use Rattle.command_words.specs.declared.table.Command.{Command}
 use Rattle.command_words.specs.declared.table.Command.TheVariants as c
-use Rattle.command_words.specs.Names.{IsNumber, within}
+use Rattle.command_words.specs.Names.{IsNumber}
 use Rattle.command_words.specs.Table.{word_of, parts_of}
 use Rattle.command_words.specs.Rules.{Meets}
 
@@ -15,31 +15,40 @@ pub record Files : Type 0 where
 abbrev pub inputs : Files → List (List ℕ)
 inputs fs = fs.users ++ fs.libs
 
--- a change: generalize OUT FILE LINE COL TYPE -- files
+-- what is asked of a place: that it become a type, with the new files below a folder; or the types to which it may go
+pub data Aim : Type 0 where
+  Become : (out ty : List ℕ) → Aim
+  Types : Aim
+
+abbrev pub aim_command : Aim → Command
+aim_command (Become out ty) = c.Generalize
+aim_command Types = c.Allowed
+
+-- its own words
+abbrev pub aim_words : Aim → (file line col : List ℕ) → List (List ℕ)
+aim_words (Become out ty) file line col = out ∷ file ∷ line ∷ col ∷ ty ∷ []
+aim_words Types file line col = file ∷ line ∷ col ∷ []
+
+-- a question about a place: generalize OUT FILE LINE COL TYPE -- files, or allowed FILE LINE COL -- files
 pub record Request : Type 0 where
-  pub out : List ℕ
+  pub aim : Aim
   pub file : List ℕ
   pub line : ℕ
   pub col : ℕ
-  pub ty : List ℕ
   pub files : Files
-
--- FILE is the only file
-abbrev pub IsAlone : Request → Type 0
-IsAlone q = inputs q.files ≡ q.file ∷ []
 
 -- the words break no rule, and ask for it
 pub record Asks (words : List (List ℕ)) (q : Request) : Type 0 where
   pub rest : List (List ℕ)
-  pub are : words ≡ word_of c.Generalize ∷ rest
+  pub are : words ≡ word_of (aim_command q.aim) ∷ rest
   pub line : List ℕ
   pub col : List ℕ
-  pub own : (parts_of rest).own ≡ q.out ∷ q.file ∷ line ∷ col ∷ q.ty ∷ []
+  pub own : (parts_of rest).own ≡ aim_words q.aim q.file line col
   pub at_line : IsNumber line q.line
   pub at_col : IsNumber col q.col
   pub users : (parts_of rest).users ≡ q.files.users
   pub libs : (parts_of rest).libs ≡ q.files.libs
-  pub meets : (n : ℕ) → Meets c.Generalize (parts_of rest) n
+  pub meets : (n : ℕ) → Meets (aim_command q.aim) (parts_of rest) n
 
 -- the words break no rule, and ask for a check: check -- files
 pub record AsksCheck (words : List (List ℕ)) (fs : Files) : Type 0 where
@@ -68,7 +77,7 @@ pub record AsksSteps (words : List (List ℕ)) (fs : Files) (steps : ℕ) : Type
   pub args : List (List ℕ)
   pub asks : AsksRun words steps class args fs
 
--- they ask for a change, a check or a run of these files
+-- they ask about a place, or for a check or a run, of these files
 abbrev pub Uses : List (List ℕ) → Files → Type 0
 Uses words fs = ((q : Request) × Asks words q × (q.files ≡ fs)) ⊎ AsksCheck words fs ⊎ ((n : ℕ) × AsksSteps words fs n)
 
@@ -78,10 +87,7 @@ pub record AskOther (words : List (List ℕ)) : Type 0 where
   pub rest : List (List ℕ)
   pub are : words ≡ word_of command ∷ rest
   pub no_change : command ≢ c.Generalize
+  pub no_types : command ≢ c.Allowed
   pub no_check : command ≢ c.Check
   pub no_run : command ≢ c.Run
   pub meets : (n : ℕ) → Meets command (parts_of rest) n
-
--- the name of the new file
-abbrev pub out_name : Request → List ℕ
-out_name q = within q.out q.file

@@ -1,4 +1,4 @@
-//! What words ask for: a change, a check or a run.
+//! What words ask for: something of a place, a check or a run.
 
 ghost use Rattle.std.specs.Prelude.{◌≡◌, ◌≢◌, ℕ, true, false, map, drop, List, ◌++◌, OnOk, IfOk, IfSome, IfNone};
 ghost use Rattle.std.specs.String.{string_bytes};
@@ -18,14 +18,22 @@ pub struct Inputs<'a> {
     pub libs: &'a [String],
 }
 
-/// `generalize OUT FILE LINE COL TYPE` with its files. Lines and columns count from 1, columns in bytes.
+/// What is asked of a place.
+#[derive(Clone, Copy)]
+pub enum Want<'a> {
+    /// `generalize`: that it become a type, with the new files below a folder.
+    Become { out: &'a str, ty: &'a str },
+    /// `allowed`: the types to which it may go.
+    Types,
+}
+
+/// `generalize OUT FILE LINE COL TYPE` or `allowed FILE LINE COL` with its files. Lines and columns count from 1, columns in bytes.
 #[derive(Clone, Copy)]
 pub struct Asked<'a> {
-    pub out: &'a str,
+    pub want: Want<'a>,
     pub file: &'a str,
     pub line: u64,
     pub col: u64,
-    pub ty: &'a str,
     pub inputs: Inputs<'a>,
 }
 
@@ -41,7 +49,7 @@ pub struct AskedRun<'a> {
 /// What is to be done with the files.
 #[derive(Clone, Copy)]
 pub enum Task<'a> {
-    Change(Asked<'a>),
+    Place(Asked<'a>),
     Check(Inputs<'a>),
     Run(AskedRun<'a>),
 }
@@ -51,7 +59,7 @@ impl<'a> Task<'a> {
         ensures { files_of result ≡ task_files self.now }
     {
         match self {
-            Task::Change(q) => q.inputs,
+            Task::Place(q) => q.inputs,
             Task::Check(inputs) => *inputs,
             Task::Run(q) => q.inputs,
         }
@@ -85,11 +93,29 @@ fn change_asked<'a>(request: &Request<'a>) -> Option<Asked<'a>>
 {
     let named = request.generalize()?;
     Some(Asked {
-        out: named.out,
+        want: Want::Become {
+            out: named.out,
+            ty: named.ty,
+        },
         file: named.file,
         line: named.line,
         col: named.col,
-        ty: named.ty,
+        inputs: inputs_in(request),
+    })
+}
+
+// The types that a request asks for, where it asks for such.
+fn types_asked<'a>(request: &Request<'a>) -> Option<Asked<'a>>
+    requires { (ws : List (List ℕ)) × asked_words.Asks ws request.now }
+    ensures some { IfSome result (λ a. (ws : List (List ℕ)) → asked_words.Asks ws request.now → Asks ws (request_of a)) }
+    ensures none { IfNone result (request.now.command ≢ commands.Allowed) }
+{
+    let named = request.allowed()?;
+    Some(Asked {
+        want: Want::Types,
+        file: named.file,
+        line: named.line,
+        col: named.col,
         inputs: inputs_in(request),
     })
 }
@@ -140,11 +166,12 @@ fn is_check(command: Command) -> bool
     matches!(command, Command::Check)
 }
 
-/// What a request asks for, where it is a change, a check or a run.
+/// What a request asks for, where it is about a place, a check or a run.
 pub fn task_of<'a>(request: &Request<'a>) -> Option<Task<'a>>
     requires { (ws : List (List ℕ)) × asked_words.Asks ws request.now }
     ensures some { IfSome result (λ t. (ws : List (List ℕ)) → asked_words.Asks ws request.now → AsksTask ws t) }
     ensures no_change { IfNone result (request.now.command ≢ commands.Generalize) }
+    ensures no_types { IfNone result (request.now.command ≢ commands.Allowed) }
     ensures no_check { IfNone result (request.now.command ≢ commands.Check) }
     ensures no_run { IfNone result (request.now.command ≢ commands.Run) }
 {
@@ -154,8 +181,11 @@ pub fn task_of<'a>(request: &Request<'a>) -> Option<Task<'a>>
     if let Some(q) = run_asked(request) {
         return Some(Task::Run(q));
     }
+    if let Some(q) = types_asked(request) {
+        return Some(Task::Place(q));
+    }
     match change_asked(request) {
-        Some(q) => Some(Task::Change(q)),
+        Some(q) => Some(Task::Place(q)),
         None => None,
     }
 }

@@ -2,36 +2,35 @@
 
 ghost use Rattle.std.specs.Prelude.{◌≡◌, ◌≤◌, ℕ, List, length, map, take, Ok, IfOk, OnErr};
 ghost use Rattle.std.specs.String.{string_bytes};
-ghost use Rattle.java_tree.specs.Names.{IsTable, built_in_names};
+ghost use Rattle.java_tree.specs.Names.{AreDistinct, IsTable, built_in_names};
 ghost use Rattle.java_tree.specs.View.{unit_plain};
 ghost use Rattle.built_in_types.specs.BuiltIns.{with_words};
 ghost use Rattle.class_world.specs.Sound.{IsSound};
 ghost use Rattle.member_table.specs.Table.{HoldsMembers};
-ghost use Rattle.command_words.specs.Names.{IsIdentifier};
 ghost use Rattle.tool_files.specs.Told.{Rose};
-ghost use Rattle.source_files.specs.Held.{AreHeld};
+ghost use Rattle.decl_table.specs.Program.{Program};
+ghost use Rattle.source_files.specs.Held.{AreHeld, AreSmall};
 ghost use Rattle.source_files.specs.Trees.{AreTrees};
 ghost use Rattle.source_files.specs.Answers.{HasParsed};
-ghost use Rattle.refactor_app.specs.Words.{inputs, Asks};
-ghost use Rattle.refactor_app.specs.Asked.{AsksTask, HasType, request_of, task_files};
+ghost use Rattle.refactor_app.specs.Words.{inputs};
+ghost use Rattle.refactor_app.specs.Asked.{AsksTask, request_of, task_files};
 ghost use Rattle.refactor_app.specs.Answers as answers;
 ghost use Rattle.refactor_app.specs.Answers.{IsBound, IsDone, IsRefused, IsThrew, IsUsage, IsWriteFault, IsOutFault, Ends};
-ghost use Rattle.refactor_app.specs.Small.{HasUnit};
-ghost use Rattle.refactor_app.specs.Judged.{AreDeclaredAs};
-ghost use Rattle.refactor_app.specs.Checked.{AreAnswered, large_line};
+ghost use Rattle.checked_files.specs.Judged.{AreDeclaredAs};
+ghost use Rattle.refactor_app.specs.Checked.{AreFilesOf};
 ghost use Rattle.refactor_app.specs.Ran.{EndsRun, RunsSo};
 ghost use Rattle.refactor_app.specs.Course.{EndsWith};
 ghost use Rattle.refactor_app.specs.Refusals.{AsksFew};
-ghost use Rattle.refactor_app.specs.Course.{Moment, Course, Finishes, Sequel};
+ghost use Rattle.refactor_app.specs.Course.{Moment, Course, Finishes};
+ghost use Rattle.refactor_app.specs.Written.{ChangesSo, EndsVerdict};
 ghost use Rattle.refactor_app.specs.Stops.{IsNamed, Stops};
 
 use crate::asked::{Asked, AskedRun, Task, names_of, task_of};
 use crate::check::{CheckAnswer, check};
-use crate::decide::{Changed, Verdict, decide};
-use crate::declarations::{Declared, judge_declarations};
-use crate::first_names::first_of;
+use crate::decide::{Output, Verdict, decide};
 use crate::lines::{broken_line, stop_line};
 use crate::status::{Status, run_status};
+use checked_files::{Declared, judge_declarations};
 use command_words::{Reading, read_words};
 use java_tree::tree::SourceUnit;
 use java_tree::{Fault, Items, Names, NoMemory};
@@ -68,13 +67,22 @@ fn put_made<K: Sink>(out: &mut K, made: Result<String, NoMemory>, status: Status
     }
 }
 
-// Writes the new file, and then puts the report or the fault.
-fn finish<F: Files, K: Sink>(files: &mut F, out: &mut K, change: &Changed) -> Status
-    ensures { Finishes (F.holds files.old) (F.holds files.new) (F.write_faults files.old) (F.write_faults files.new) change.now (Ends (K.written out.old) (K.written out.new) (K.faults out.old) (K.faults out.new)) result }
+// Writes the new files one behind the other, and then puts the report, or the fault of the one that failed. Takes no memory.
+fn finish<F: Files, K: Sink>(
+    files: &mut F,
+    out: &mut K,
+    outputs: &[Output],
+    report: &[u8],
+) -> Status
+    ensures { Finishes outputs.now (F.holds files.old) (F.holds files.new) (F.write_faults files.old) (F.write_faults files.new) report.now
+        (Ends (K.written out.old) (K.written out.new) (K.faults out.old) (K.faults out.new)) result }
 {
-    match files.write(change.name.as_str(), change.text.as_slice()) {
-        Ok(()) => put(out, change.report.as_bytes(), Status::Done),
-        Err(_) => put(out, change.fault.as_bytes(), Status::WriteFault),
+    match outputs.split_first() {
+        None => put(out, report, Status::Done),
+        Some((output, rest)) => match files.write(output.name.as_str(), output.text.as_slice()) {
+            Ok(()) => finish(files, out, rest, report),
+            Err(_) => put(out, output.fault.as_bytes(), Status::WriteFault),
+        },
     }
 }
 
@@ -114,12 +122,12 @@ fn on_run<K: Sink>(
 {
     match checked {
         CheckAnswer::Refused(line) => put(out, line.as_bytes(), Status::Refused),
-        CheckAnswer::Passed { core, .. } => {
+        CheckAnswer::Passed { checked, .. } => {
             let answer = run_main(
                 alloc,
                 &declared.world,
                 table,
-                core,
+                &checked.core,
                 &declared.members,
                 q.inputs.users.len(),
                 q.class,
@@ -131,80 +139,57 @@ fn on_run<K: Sink>(
     }
 }
 
-// Puts what stands against a change that no small program answers.
-fn put_large<K: Sink>(out: &mut K, checked: &CheckAnswer) -> Status
-    ensures { Ends (K.written out.old) (K.written out.new) (K.faults out.old) (K.faults out.new) (large_line checked.now) Status.Refused result }
-{
-    match checked {
-        CheckAnswer::Refused(line) => put(out, line.as_bytes(), Status::Refused),
-        CheckAnswer::Passed { .. } => put(out, b"refused N2 -\n", Status::Refused),
-    }
-}
-
-// What becomes of a request on a text with this tree, of which a check answered this.
-fn answer<F: Files, K: Sink>(
-    alloc: Global,
-    q: &Asked<'_>,
-    text: &[u8],
-    names: Names,
-    unit: SourceUnit,
-    checked: &CheckAnswer,
+// Writes what was decided of a change, or puts the types of a place or what stands against the question.
+fn put_verdict<F: Files, K: Sink>(
     files: &mut F,
     out: &mut K,
+    verdict: Result<Verdict, NoMemory>,
 ) -> Status
-    requires size { length text.now ≤ 1048576 }
-    requires word { IsIdentifier q.now.ty.now }
-    requires unit { HasUnit text.now names unit }
-    ensures { let a : Moment = record { holds = F.holds files.old; misses = F.misses files.old; read_faults = F.read_faults files.old; write_faults = F.write_faults files.old; put = K.written out.old; faults = K.faults out.old } in
-        let b : Moment = record { holds = F.holds files.new; misses = F.misses files.new; read_faults = F.read_faults files.new; write_faults = F.write_faults files.new; put = K.written out.new; faults = K.faults out.new } in
-        Sequel (request_of q.now) text.now checked.now a b result }
+    ensures { EndsVerdict (F.holds files.old) (F.holds files.new) (F.write_faults files.old) (F.write_faults files.new)
+        (K.written out.old) (K.written out.new) (K.faults out.old) (K.faults out.new) verdict result }
 {
-    match decide(alloc, q, text, names, unit) {
+    match verdict {
         Ok(Verdict::Refused(line)) => put(out, line.as_bytes(), Status::Refused),
-        Ok(Verdict::Changed(change)) => finish(files, out, &change),
-        Ok(Verdict::General) => put_large(out, checked),
+        Ok(Verdict::Changed { outputs, report }) => {
+            finish(files, out, outputs.as_slice(), report.as_slice())
+        }
+        Ok(Verdict::Listed(report)) => put(out, report.as_bytes(), Status::Done),
         Err(_) => Status::NoMemory,
     }
 }
 
-// What becomes of a change of files with these texts and trees, whose declarations break no rule and say this, and of which a check answered this. A small program
-// is one file. The first `count` names are those of the texts.
-fn on_change<F: Files, K: Sink>(
+// What becomes of a question about a place of files with these texts and trees, whose declarations break no rule and say this, and of which a check answered this. The table has the
+// names that the built-in types need.
+fn on_place<F: Files, K: Sink>(
     alloc: Global,
     q: &Asked<'_>,
+    file_names: &[String],
     texts: &[Items<u8>],
+    units: &[SourceUnit],
     table: &Names,
-    count: u32,
-    units: Items<SourceUnit>,
     declared: &Declared,
     checked: &CheckAnswer,
     files: &mut F,
     out: &mut K,
 ) -> Status
-    requires word { IsIdentifier q.now.ty.now }
-    requires held { AreHeld (F.holds files.old) 0 (inputs (request_of q.now).files) texts.now }
-    requires table { IsTable table.now }
-    requires within { count ≤ length table.now }
-    requires built_in { 19 ≤ count }
-    requires trees { AreTrees built_in_names 0 0 texts.now (map unit_plain units) (take count table.now) }
-    requires declared { AreDeclaredAs (length (request_of q.now).files.users) (take count table.now) (map unit_plain units) declared.now }
-    requires checked { AreAnswered (request_of q.now).files texts.now (take count table.now) (map unit_plain units) declared.now checked.now }
-    ensures { let a : Moment = record { holds = F.holds files.old; misses = F.misses files.old; read_faults = F.read_faults files.old; write_faults = F.write_faults files.old; put = K.written out.old; faults = K.faults out.old } in
-        let b : Moment = record { holds = F.holds files.new; misses = F.misses files.new; read_faults = F.read_faults files.new; write_faults = F.write_faults files.new; put = K.written out.new; faults = K.faults out.new } in
-        (words : List (List ℕ)) → Asks words (request_of q.now) → AsksFew words (request_of q.now).files → Course words a b result }
+    requires small { AreSmall texts.now }
+    requires names { map string_bytes file_names.now ≡ inputs (request_of q.now).files }
+    requires units { length units.now ≡ length texts.now }
+    requires users { length q.now.inputs.users.now ≤ length units.now }
+    requires sound { IsSound declared.now.world }
+    requires members { HoldsMembers declared.now.world declared.now.members }
+    requires distinct { AreDistinct table.now }
+    requires program { (p : Program) × AreFilesOf (length q.now.inputs.users.now) table.now (map unit_plain units.now) p }
+    ensures { (p : Program) → AreFilesOf (length q.now.inputs.users.now) table.now (map unit_plain units.now) p
+        → ChangesSo (F.holds files.old) (F.holds files.new) (F.write_faults files.old) (F.write_faults files.new)
+        (K.written out.old) (K.written out.new) (K.faults out.old) (K.faults out.new) (request_of q.now) texts.now table.now (map unit_plain units.now) p declared.now.world checked.now result }
 {
-    if texts.len() != 1 {
-        return put_large(out, checked);
-    }
-    let Ok(names) = first_of(alloc, table, count) else {
-        return Status::NoMemory;
-    };
-    match units.into_vec().pop() {
-        Some(unit) => {
-            let text = texts[0].as_slice();
-            answer(alloc, q, text, names, unit, checked, files, out)
+    match checked {
+        CheckAnswer::Refused(line) => put(out, line.as_bytes(), Status::Refused),
+        CheckAnswer::Passed { checked, .. } => {
+            let verdict = decide(alloc, q, file_names, texts, units, table, declared, checked);
+            put_verdict(files, out, verdict)
         }
-        None => Status::NoMemory,
     }
 }
 
@@ -222,7 +207,6 @@ fn on_declared<F: Files, K: Sink>(
     files: &mut F,
     out: &mut K,
 ) -> Status
-    requires word { HasType task.now }
     requires names { map string_bytes file_names.now ≡ inputs (task_files task.now) }
     requires held { AreHeld (F.holds files.old) 0 (inputs (task_files task.now)) texts.now }
     requires table { IsTable table.now }
@@ -248,8 +232,17 @@ fn on_declared<F: Files, K: Sink>(
         return Status::NoMemory;
     };
     match task {
-        Task::Change(q) => on_change(
-            alloc, q, texts, table, count, units, declared, &checked, files, out,
+        Task::Place(q) => on_place(
+            alloc,
+            q,
+            file_names,
+            texts,
+            units.as_slice(),
+            table,
+            declared,
+            &checked,
+            files,
+            out,
         ),
         Task::Check(_) => put_checked(out, &checked),
         Task::Run(q) => on_run(alloc, q, table, declared, &checked, out),
@@ -266,7 +259,6 @@ fn on_trees<F: Files, K: Sink>(
     files: &mut F,
     out: &mut K,
 ) -> Status
-    requires word { HasType task.now }
     requires names { map string_bytes file_names.now ≡ inputs (task_files task.now) }
     requires held { AreHeld (F.holds files.old) 0 (inputs (task_files task.now)) texts.now }
     requires trees { HasParsed texts.now (Ok parsed) }
@@ -298,7 +290,6 @@ fn on_texts<F: Files, K: Sink>(
     files: &mut F,
     out: &mut K,
 ) -> Status
-    requires word { HasType task.now }
     requires names { map string_bytes names.now ≡ inputs (task_files task.now) }
     requires few { length names.now ≤ 256 }
     requires held { AreHeld (F.holds files.old) 0 (inputs (task_files task.now)) texts.now }
@@ -340,7 +331,6 @@ fn on_files<F: Files, K: Sink>(
     files: &mut F,
     out: &mut K,
 ) -> Status
-    requires word { HasType task.now }
     requires names { map string_bytes names.now ≡ inputs (task_files task.now) }
     requires few { length names.now ≤ 256 }
     ensures { let a : Moment = record { holds = F.holds files.old; misses = F.misses files.old; read_faults = F.read_faults files.old; write_faults = F.write_faults files.old; put = K.written out.old; faults = K.faults out.old } in
@@ -355,7 +345,6 @@ fn on_files<F: Files, K: Sink>(
 
 // A task on its files.
 fn on_task<F: Files, K: Sink>(alloc: Global, task: &Task<'_>, files: &mut F, out: &mut K) -> Status
-    requires { HasType task.now }
     ensures { let a : Moment = record { holds = F.holds files.old; misses = F.misses files.old; read_faults = F.read_faults files.old; write_faults = F.write_faults files.old; put = K.written out.old; faults = K.faults out.old } in
         let b : Moment = record { holds = F.holds files.new; misses = F.misses files.new; read_faults = F.read_faults files.new; write_faults = F.write_faults files.new; put = K.written out.new; faults = K.faults out.new } in
         (words : List (List ℕ)) → AsksTask words task.now → Course words a b result }
@@ -402,8 +391,8 @@ pub fn refactor<F: Files, K: Sink>(
     files: &mut F,
     out: &mut K,
 ) -> Status
-    // Of a change: the new file holds the old bytes under the reported edit, every other name is as before, and the old and the new program
-    // have their trees and types, and their declarations break no rule; the new tree is the old one with the one type changed.
+    // Of a change: each of the user's files is written under OUT with the reported edits and no other name is changed; the old and the new program break no rule, and
+    // for all arguments and every bound the new one prints, enters and ends as the old one.
     // Of a check: the program breaks no rule, and the report names its unchecked operations; nothing is written.
     // Of a run: the program breaks no rule, its main method ended normally, and the report has what it printed; nothing is written.
     ensures done { result ≡ Status.Done → IsDone (map string_bytes words.now) (F.holds files.old) (F.holds files.new) (K.written out.old) (K.written out.new) }

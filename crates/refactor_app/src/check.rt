@@ -1,24 +1,22 @@
 //! What becomes of a check.
 
-ghost use Rattle.std.specs.Prelude.{◌≡◌, ◌≤◌, length, map, take, drop, Err, IfOk};
+ghost use Rattle.std.specs.Prelude.{◌≡◌, ◌≤◌, length, map, Err, IfOk};
 ghost use Rattle.std.specs.String.{string_bytes};
 ghost use Rattle.java_tree.specs.Names.{AreDistinct};
 ghost use Rattle.java_tree.specs.View.{unit_plain};
 ghost use Rattle.class_world.specs.declared.world.World.{World};
 ghost use Rattle.class_world.specs.Sound.{IsSound};
-ghost use Rattle.decl_table.specs.Judged.{IsProgram};
 ghost use Rattle.decl_table.specs.Program.{Program};
 ghost use Rattle.checker.specs.Checking.{IsCheckedBy};
 ghost use Rattle.member_table.specs.Table.{HoldsMembers};
 ghost use Rattle.source_files.specs.Held.{AreSmall};
-ghost use Rattle.refactor_app.specs.Checked.{Answers};
+ghost use Rattle.refactor_app.specs.Checked.{Answers, AreFilesOf};
 ghost use Rattle.refactor_app.specs.Refusals as spec;
 ghost use Rattle.refactor_app.specs.Words.{Files, inputs};
 
-use crate::declarations::Declared;
 use crate::lines::{broken_line, check_report};
-use checker::{CheckFault, check_files};
-use java_core::CoreProgram;
+use checked_files::Declared;
+use checker::{CheckFault, CheckedProgram, check_files};
 use java_tree::tree::SourceUnit;
 use java_tree::{Broken, Family, Items, Names, NoMemory};
 use std::alloc::Global;
@@ -28,8 +26,11 @@ use std::alloc::Global;
 pub enum CheckAnswer {
     /// The line that names the first broken rule.
     Refused(String),
-    /// The report of a check, and the core of the program.
-    Passed { report: String, core: CoreProgram },
+    /// The report of a check, and the program that breaks no rule.
+    Passed {
+        report: String,
+        checked: CheckedProgram,
+    },
 }
 
 // A rule on types at a node.
@@ -109,18 +110,15 @@ pub fn check(
     requires sound { IsSound declared.now.world }
     requires members { HoldsMembers declared.now.world declared.now.members }
     requires distinct { AreDistinct table.now }
-    requires program { (p : Program) × IsProgram table.now (take users (map unit_plain units.now)) (drop users (map unit_plain units.now)) p }
-    ensures { (p : Program) (fs : Files) → IsProgram table.now (take users (map unit_plain units.now)) (drop users (map unit_plain units.now)) p
+    requires program { (p : Program) × AreFilesOf users table.now (map unit_plain units.now) p }
+    ensures { (p : Program) (fs : Files) → AreFilesOf users table.now (map unit_plain units.now) p
         → inputs fs ≡ map string_bytes file_names.now → IfOk result (Answers fs texts.now (map unit_plain units.now) p declared.now.world) }
 {
     let (user, lib) = units.split_at(users);
     match check_files(alloc, &declared.world, &declared.members, table, user, lib) {
         Ok(checked) => {
             let report = check_report(alloc, file_names, texts, checked.operations.as_slice())?;
-            Ok(CheckAnswer::Passed {
-                report,
-                core: checked.core,
-            })
+            Ok(CheckAnswer::Passed { report, checked })
         }
         Err(fault) => stopped(alloc, file_names, texts, units, fault),
     }

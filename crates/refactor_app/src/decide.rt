@@ -1,199 +1,267 @@
-//! What becomes of a request on a text.
+//! What becomes of a question about a place of checked files.
 
-ghost use Rattle.std.specs.Prelude.{◌≡◌, ◌≤◌, ◌⊎◌, ◌^◌, ℕ, length, IfOk, IfSome, IfNone};
+ghost use Rattle.std.specs.Prelude.{◌≡◌, ◌≤◌, ◌<◌, length, map, take, Some, IfOk, IfSome, OnOk, slice_get};
 ghost use Rattle.std.specs.String.{string_bytes};
-ghost use Rattle.java_tree.specs.declared.tree.Node.{Node};
 ghost use Rattle.java_tree.specs.Names.{AreDistinct};
 ghost use Rattle.java_tree.specs.View.{unit_plain};
-ghost use Rattle.command_words.specs.Names.{IsIdentifier};
-ghost use Rattle.edit_writer.specs.Places as places;
-ghost use Rattle.small_decls.specs.Classes.{Numbers};
-ghost use Rattle.generalize_type.specs.Steps.{IsConstrained};
-ghost use Rattle.report_text.specs.Report as lines;
-ghost use Rattle.refactor_app.specs.Asked.{request_of};
-ghost use Rattle.refactor_app.specs.Decided.{Decides, IsChange, IsLine, IsPlanned};
-ghost use Rattle.refactor_app.specs.Small.{IsProgramOf, IsTarget, HasUnit};
-ghost use Rattle.refactor_app.specs.Verdicts.{asked};
-ghost use Rattle.refactor_app.specs.Words as spec;
+ghost use Rattle.class_world.specs.Sound.{IsSound};
+ghost use Rattle.member_table.specs.Table.{HoldsMembers};
+ghost use Rattle.decl_table.specs.Program.{Program};
+ghost use Rattle.source_files.specs.Held.{AreSmall};
+ghost use Rattle.type_facts.specs.Facts.{IsReady};
+ghost use Rattle.generalize_declared.specs.Plans.{AreSourceFacts};
+ghost use Rattle.command_words.specs.Names.{within};
+ghost use Rattle.refactor_app.specs.Asked.{aim_of, request_of};
+ghost use Rattle.refactor_app.specs.Changes as spec;
+ghost use Rattle.refactor_app.specs.Checked.{AreFilesOf};
+ghost use Rattle.refactor_app.specs.Decided.{Adds, Decides, IsOutput, IsVerdict, IsWritten, SaysSo};
+ghost use Rattle.refactor_app.specs.Words.{inputs};
 
-use crate::asked::Asked;
-use crate::program::{Small, program};
-use edit_writer::{Edit, Place, apply, place_at};
-use generalize_type::{SmallAgainst, SmallEdit, generalize_small, start_of};
+use crate::asked::{Asked, Want};
+use crate::lines::against_line;
+use changed_files::NewFiles;
+use checked_files::Declared;
+use checker::{CheckedProgram, java_names, length_name};
+use generalize_declared::{Answer, CheckedSource, TypesAnswer, Wish, allowed_types, generalize};
 use java_tree::tree::SourceUnit;
-use java_tree::{Names, NoMemory};
-use report_text::{edit_report, refused_at, write_fault};
+use java_tree::{Items, Names, NoMemory};
+use report_text::{change_report, types_report, write_fault};
 use std::alloc::Global;
+use type_facts::Questions;
+use type_names::TypeNames;
 
-/// A change: the new file's name and text, the report, and the report where the write fails.
+/// A file that is written: its name, its bytes, and the report where the write fails.
 #[derive(Drop)]
-pub struct Changed {
+pub struct Output {
     pub name: String,
-    pub text: Vec<u8>,
-    pub report: String,
+    pub text: Items<u8>,
     pub fault: String,
 }
 
 #[derive(Drop)]
 pub enum Verdict {
-    /// The line that names what stands against the request.
+    /// The line that names what stands against the question.
     Refused(String),
-    Changed(Changed),
-    /// The text is no small program that has the type.
-    General,
+    Changed {
+        outputs: Items<Output>,
+        report: Vec<u8>,
+    },
+    /// The report of the types to which the place may go.
+    Listed(String),
 }
 
-// The number of the type that a word names: Object, or a class of the file that is not main's.
-fn target_of(small: &Small, word: &str) -> Option<u32>
-    requires names { AreDistinct small.now.names }
-    requires classes { Numbers small.now.declared.classes (unit_plain small.now.unit) }
-    ensures some { IfSome result (IsTarget small.now word.now) }
-    ensures none { IfNone result ((c : ℕ) → IsTarget small.now word.now c → ⊥) }
+// The place of a name among others.
+fn place_among(names: &[String], name: &str) -> Option<usize>
+    ensures { IfSome result (λ k. slice_get (map string_bytes names.now) k ≡ Some name.now) }
 {
-    let name = small.names.find(word)?;
-    if name.0 == 0 {
-        return Some(0);
+    match names.split_first() {
+        None => None,
+        Some((first, rest)) => {
+            if first.as_str() == name {
+                return Some(0);
+            }
+            let at = place_among(rest, name)?;
+            at.checked_add(1)
+        }
     }
-    small.declared.classes.get(name)
 }
 
-// The place of a request. Each place of a text that may be a small program's has smaller numbers.
-fn place_of(q: &Asked<'_>) -> Option<Place>
-    ensures some { IfSome result (λ p. p ≡ asked (request_of q.now)) }
-    ensures none { IfNone result ((2 ^ 32 ≤ q.now.line) ⊎ (2 ^ 32 ≤ q.now.col)) }
+// The place that is asked for, in one of the user's files.
+fn wish_of(q: &Asked<'_>) -> Option<Wish>
+    ensures { IfSome result (λ x. spec.IsWish (request_of q.now) x) }
 {
-    if q.line > u32::MAX as u64 || q.col > u32::MAX as u64 {
-        return None;
-    }
-    Some(Place {
-        line: q.line as u32,
-        col: q.col as u32,
+    let file = place_among(q.inputs.users, q.file)?;
+    Some(Wish {
+        file,
+        line: q.line,
+        col: q.col,
     })
 }
 
-// A refusal with this line.
-fn refused(alloc: Global, line: &str) -> Result<Verdict, NoMemory>
-    ensures { IfOk result (IsLine line.now) }
+// The folder of the new files.
+fn out_of<'a>(want: Want<'a>) -> &'a str
+    ensures { result.now ≡ spec.out_of (aim_of want) }
 {
-    Ok(Verdict::Refused(String::from_str(alloc, line)?))
-}
-
-// A refusal at a place of the request's file.
-fn refused_there(alloc: Global, rule: &str, q: &Asked<'_>, at: Place) -> Result<Verdict, NoMemory>
-    ensures { IfOk result (IsLine (lines.refused_at rule.now q.now.file.now at)) }
-{
-    Ok(Verdict::Refused(refused_at(alloc, rule, q.file, at)?))
-}
-
-// The refusal at the node of main with this number, at which a constraint of this name is unmet.
-fn unmet_at(
-    alloc: Global,
-    rule: &str,
-    q: &Asked<'_>,
-    text: &[u8],
-    small: &Small,
-    number: u32,
-) -> Result<Verdict, NoMemory>
-    requires program { IsProgramOf text.now small.now }
-    requires node { (n : Node) × IsConstrained (unit_plain small.now.unit) n × (n.id ≡ number) }
-    ensures { (n : Node) → IsConstrained (unit_plain small.now.unit) n → n.id ≡ number
-        → IfOk result (IsLine (lines.refused_at rule.now q.now.file.now (places.place_at text.now n.span.from))) }
-{
-    match start_of(&small.unit, number) {
-        Some(from) => refused_there(alloc, rule, q, place_at(text, from as usize)),
-        None => unreachable!(),
+    match want {
+        Want::Become { out, .. } => out,
+        Want::Types => "",
     }
 }
 
 // OUT/FILE
-fn out_name(alloc: Global, q: &Asked<'_>) -> Result<String, NoMemory>
-    ensures { IfOk result (λ r. string_bytes r ≡ spec.out_name (request_of q.now)) }
+fn out_name(alloc: Global, out: &str, file: &str) -> Result<String, NoMemory>
+    ensures { IfOk result (λ r. string_bytes r ≡ within out.now file.now) }
 {
-    Ok(format!(in alloc; "{}/{}", q.out, q.file)?)
+    Ok(format!(in alloc; "{out}/{file}")?)
 }
 
-// The change that an edit makes.
-fn change_of(
-    alloc: Global,
-    q: &Asked<'_>,
-    text: &[u8],
-    edit: SmallEdit,
-) -> Result<Changed, NoMemory>
-    requires { IsPlanned (request_of q.now) text.now edit }
-    ensures { IfOk result (IsChange (request_of q.now) text.now) }
+// What is written of a file.
+fn output_of(alloc: Global, out: &str, file: &str, text: &[u8]) -> Result<Output, NoMemory>
+    ensures { IfOk result (IsOutput (within out.now file.now) text.now) }
 {
-    let edit = Edit {
-        from: edit.from,
-        to: edit.to,
-        text: edit.text,
-    };
-    let report = edit_report(alloc, q.file, &edit, q.ty)?;
-    let name = out_name(alloc, q)?;
+    let name = out_name(alloc, out, file)?;
     let fault = write_fault(alloc, name.as_str())?;
-    let edits = [edit];
-    let text = apply(alloc, text, edits.as_slice())?;
-    Ok(Changed {
-        name,
-        text,
-        report,
-        fault,
-    })
+    let text = Items::from_slice(alloc, text)?;
+    Ok(Output { name, text, fault })
 }
 
-// What becomes of a request on a small program, for the type with this number.
-fn judge(
+// What is written of files, each with its text.
+fn push_outputs(
     alloc: Global,
-    q: &Asked<'_>,
-    text: &[u8],
-    small: &Small,
-    target: u32,
-) -> Result<Verdict, NoMemory>
-    requires program { IsProgramOf text.now small.now }
-    requires target { IsTarget small.now q.now.ty.now target }
-    requires word { IsIdentifier q.now.ty.now }
-    ensures { IfOk result (Decides (request_of q.now) text.now) }
+    out: &str,
+    files: &[String],
+    texts: &[Items<u8>],
+    outputs: &mut Items<Output>,
+) -> Result<(), NoMemory>
+    requires { length files.now ≤ length texts.now }
+    ensures { OnOk result (Adds (map (within out.now) (map string_bytes files.now)) (take (length files.now) texts.now) outputs.old outputs.new) }
 {
-    let Some(at) = place_of(q) else {
-        return refused(alloc, "refused V1 -\n");
-    };
-    let world = &small.declared.world;
-    match generalize_small(
-        alloc,
-        text,
-        &small.unit,
-        &small.names,
-        world,
-        at.line,
-        at.col,
-        target,
-    ) {
-        Ok(edit) => Ok(Verdict::Changed(change_of(alloc, q, text, edit)?)),
-        Err(SmallAgainst::V(1)) => refused(alloc, "refused V1 -\n"),
-        Err(SmallAgainst::V(_)) => refused_there(alloc, "V3", q, at),
-        Err(SmallAgainst::Assign(number)) => unmet_at(alloc, "ASSIGN", q, text, small, number),
-        Err(SmallAgainst::Member(number)) => unmet_at(alloc, "MEMBER", q, text, small, number),
-        Err(SmallAgainst::NoMemory) => Err(NoMemory),
+    match files.split_first() {
+        None => Ok(()),
+        Some((file, rest)) => match texts.split_first() {
+            None => Ok(()),
+            Some((text, more)) => {
+                outputs.push(output_of(alloc, out, file.as_str(), text.as_slice())?)?;
+                push_outputs(alloc, out, rest, more, outputs)
+            }
+        },
     }
 }
 
-/// What becomes of the request on this text with this tree.
+// The new files of a change, to be written.
+fn changed(alloc: Global, q: &Asked<'_>, new: &NewFiles) -> Result<Verdict, NoMemory>
+    ensures { IfOk result (IsWritten (request_of q.now) new.now) }
+{
+    let users = q.inputs.users.len();
+    if new.texts.len() < users || new.edits.len() < users {
+        return Err(NoMemory);
+    }
+    let (edits, _) = new.edits.as_slice().split_at(users);
+    let report = change_report(alloc, q.inputs.users, edits)?;
+    let mut outputs = Items::new(alloc);
+    push_outputs(
+        alloc,
+        out_of(q.want),
+        q.inputs.users,
+        new.texts.as_slice(),
+        &mut outputs,
+    )?;
+    Ok(Verdict::Changed { outputs, report })
+}
+
+// What is put of what `generalize` answers.
+fn verdict_of(
+    alloc: Global,
+    q: &Asked<'_>,
+    file_names: &[String],
+    source: &CheckedSource<'_>,
+    answer: &Answer,
+) -> Result<Verdict, NoMemory>
+    requires small { AreSmall source.now.texts.now }
+    requires names { map string_bytes file_names.now ≡ inputs (request_of q.now).files }
+    ensures { IfOk result (IsVerdict (request_of q.now) source.now.texts.now (map unit_plain source.now.units.now) (spec.said_of answer.now)) }
+{
+    match answer {
+        Answer::Changed(new) => changed(alloc, q, new),
+        Answer::Against(against) => {
+            let line = against_line(alloc, file_names, source.texts, source.units, *against)?;
+            Ok(Verdict::Refused(line))
+        }
+    }
+}
+
+// What is put of what `allowed` answers.
+fn types_verdict(
+    alloc: Global,
+    q: &Asked<'_>,
+    file_names: &[String],
+    source: &CheckedSource<'_>,
+    answer: &TypesAnswer,
+) -> Result<Verdict, NoMemory>
+    requires small { AreSmall source.now.texts.now }
+    requires names { map string_bytes file_names.now ≡ inputs (request_of q.now).files }
+    ensures { IfOk result (IsVerdict (request_of q.now) source.now.texts.now (map unit_plain source.now.units.now) (spec.types_said answer.now)) }
+{
+    match answer {
+        TypesAnswer::Types(names) => Ok(Verdict::Listed(types_report(alloc, names.as_slice())?)),
+        TypesAnswer::Against(against) => {
+            let line = against_line(alloc, file_names, source.texts, source.units, *against)?;
+            Ok(Verdict::Refused(line))
+        }
+    }
+}
+
+// What is put of what the command answers that is asked.
+fn answered(
+    alloc: Global,
+    q: &Asked<'_>,
+    file_names: &[String],
+    questions: &Questions<'_>,
+    source: &CheckedSource<'_>,
+    wish: Wish,
+) -> Result<Verdict, NoMemory>
+    requires ready { IsReady questions.now }
+    requires small { AreSmall source.now.texts.now }
+    requires distinct { AreDistinct source.now.names.now }
+    requires texts { length source.now.texts.now ≡ length source.now.units.now }
+    requires file { wish.file < length source.now.units.now }
+    requires names { map string_bytes file_names.now ≡ inputs (request_of q.now).files }
+    ensures { IfOk result (SaysSo (request_of q.now) source.now wish (AreSourceFacts questions.now source.now)) }
+{
+    match q.want {
+        Want::Become { ty, .. } => {
+            let answer = generalize(alloc, questions, source, wish, ty)?;
+            verdict_of(alloc, q, file_names, source, &answer)
+        }
+        Want::Types => {
+            let answer = allowed_types(alloc, questions, source, wish)?;
+            types_verdict(alloc, q, file_names, source, &answer)
+        }
+    }
+}
+
+/// What becomes of a question about a place of files that break no rule. The first `users` files are the user's, and the table has the names that the built-in types need.
 pub fn decide(
     alloc: Global,
     q: &Asked<'_>,
-    text: &[u8],
-    names: Names,
-    unit: SourceUnit,
+    file_names: &[String],
+    texts: &[Items<u8>],
+    units: &[SourceUnit],
+    table: &Names,
+    declared: &Declared,
+    checked: &CheckedProgram,
 ) -> Result<Verdict, NoMemory>
-    requires size { length text.now ≤ 1048576 }
-    requires word { IsIdentifier q.now.ty.now }
-    requires unit { HasUnit text.now names unit }
-    ensures { IfOk result (Decides (request_of q.now) text.now) }
+    requires small { AreSmall texts.now }
+    requires names { map string_bytes file_names.now ≡ inputs (request_of q.now).files }
+    requires units { length units.now ≡ length texts.now }
+    requires users { length q.now.inputs.users.now ≤ length units.now }
+    requires sound { IsSound declared.now.world }
+    requires members { HoldsMembers declared.now.world declared.now.members }
+    requires distinct { AreDistinct table.now }
+    requires program { (p : Program) × AreFilesOf (length q.now.inputs.users.now) table.now (map unit_plain units.now) p }
+    ensures { (p : Program) → AreFilesOf (length q.now.inputs.users.now) table.now (map unit_plain units.now) p
+        → IfOk result (Decides (request_of q.now) texts.now table.now (map unit_plain units.now) p declared.now.world checked.now) }
 {
-    let Some(small) = program(alloc, text, names, unit)? else {
-        return Ok(Verdict::General);
+    let Some(wish) = wish_of(q) else {
+        return Err(NoMemory);
     };
-    match target_of(&small, q.ty) {
-        Some(target) => judge(alloc, q, text, &small, target),
-        None => Ok(Verdict::General),
-    }
+    let users = q.inputs.users.len();
+    let (user, lib) = units.split_at(users);
+    let meant = TypeNames::of(alloc, java_names(table), user, lib)?;
+    let questions = Questions {
+        world: &declared.world,
+        members: &declared.members,
+        names: &meant,
+        file: 0,
+        length_name: length_name(table),
+    };
+    let source = CheckedSource {
+        texts,
+        units,
+        users,
+        names: table,
+        core: &checked.core,
+        operations: checked.operations.as_slice(),
+    };
+    answered(alloc, q, file_names, &questions, &source, wish)
 }

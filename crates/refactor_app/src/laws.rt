@@ -2,10 +2,8 @@
 
 ghost use Rattle.std.specs.Prelude.{◌≡◌, ◌≢◌, ◌<◌, ◌≤◌, ◌⊎◌, ◌↔◌, ℕ, List, Some, length};
 ghost use Rattle.tool_files.specs.Told.{Look};
-ghost use Rattle.edit_writer.specs.declared.edits.Edit.{Edit};
 ghost use Rattle.source_files.specs.Held.{AreHeld, StopsAt, Stop, Missing, Failed};
 ghost use Rattle.refactor_app.specs.Words.{Files, Request, inputs, Asks, AsksSteps, Uses, AskOther};
-ghost use Rattle.refactor_app.specs.Verdicts.{Refuses, Changes};
 ghost use Rattle.refactor_app.specs.Refusals.{most_files, most_steps, AsksFew};
 ghost use Rattle.refactor_app.specs.Answers.{IsBound, IsDone, IsChangeDone, IsRefused, IsThrew, IsUsage, IsMissing, IsReadFault, IsWriteFault};
 ghost use Rattle.refactor_app.specs.Outcomes.{Outcome, ComesTo, AreTreeless, IsOfTypes, Excludes};
@@ -16,34 +14,18 @@ pub fn one_request()
     ensures files { (words : List (List ℕ)) (a b : Files) → Uses words a → Uses words b → a ≡ b }
 {}
 
-/// One line refuses a request on a text: its rule and place are the first that stand against it.
-pub fn one_refusal()
-    ensures { (q : Request) (text a b : List ℕ) → Refuses q text a → Refuses q text b → a ≡ b }
-{}
-
-/// One edit and one new text answer a request on a text.
-pub fn one_change()
-    ensures { (q : Request) (text m n : List ℕ) (d e : Edit) → Changes q text m d → Changes q text n e → (m ≡ n) × (d ≡ e) }
-{}
-
-/// What is refused is not changed.
-pub fn refused_or_changed()
-    ensures { (q : Request) (text line made : List ℕ) (e : Edit) → Refuses q text line → Changes q text made e → ⊥ }
-{}
-
 /// Words, and any number of files whose contents are told, come to one outcome at most: the lowest rule on words, the first absent file, the line of
 /// a refusal, a request with its change, or the report of a check or of a run. The place of G1 is free: then both lines are G1's, of one file.
-/// And nothing is said here of two answers of a check, or of a run behind it, whose files break no rule before those on types.
+/// And nothing is said here of two answers of a check, or of a change or a run behind it, whose files break no rule before those on types.
 pub fn one_outcome()
     ensures { (words : List (List ℕ)) (look : Look) (a b : Outcome) → ComesTo words (Some look) a → ComesTo words (Some look) b
         → (a ≡ b) ⊎ AreTreeless words (Some look) a b ⊎ (IsOfTypes words (Some look) a × IsOfTypes words (Some look) b) }
 {}
 
-/// So the answers of the call exclude each other, but for a refusal and the report of a check or of a run, and for two of these. A write fault stands where the change would: of both the change is one, by `one_outcome`.
+/// So the answers of the call exclude each other, but for a refusal and what comes behind a check, and for two of these. A write fault stands where the change would.
 pub fn answers_exclude()
     ensures usage { Excludes IsUsage IsDone × Excludes IsUsage IsRefused × Excludes IsUsage IsMissing × Excludes IsUsage IsReadFault × Excludes IsUsage IsWriteFault }
     ensures missing { Excludes IsMissing IsDone × Excludes IsMissing IsRefused × Excludes IsMissing IsWriteFault }
-    ensures refused { Excludes IsRefused IsChangeDone × Excludes IsRefused IsWriteFault }
     ensures threw { Excludes IsThrew IsUsage × Excludes IsThrew IsMissing × Excludes IsThrew IsChangeDone × Excludes IsThrew IsWriteFault }
     ensures bound { Excludes IsBound IsUsage × Excludes IsBound IsMissing × Excludes IsBound IsChangeDone × Excludes IsBound IsWriteFault }
 {}

@@ -7,18 +7,21 @@ ghost use Rattle.node_places.specs.Places.{place_of};
 ghost use Rattle.source_files.specs.Held.{AreSmall};
 ghost use Rattle.source_files.specs.Answers.{HasParsed};
 ghost use Rattle.refactor_app.specs.Words.{Files, inputs};
+ghost use Rattle.refactor_app.specs.Changes as changes;
 ghost use Rattle.refactor_app.specs.Checking as checking;
 ghost use Rattle.refactor_app.specs.Declarations as spec;
 ghost use Rattle.refactor_app.specs.Refusals.{IsAt};
 ghost use Rattle.refactor_app.specs.Stops.{TellsStop};
 
 use edit_writer::place_at;
+use generalize_declared::Against;
 use java_tree::tree::SourceUnit;
 use java_tree::{Broken, Family, Items, NoMemory};
 use node_places::{NodePlace, first_byte};
 use report_text::{checked_files, place_text, refused_at, refused_place, rule_name, unchecked_at};
 use source_files::TreeStop;
 use std::alloc::Global;
+use type_constraints::Constraint;
 use unchecked_ops::Operation;
 
 // A refusal at a byte of a file.
@@ -151,6 +154,62 @@ pub fn broken_line(
     let rule = rule_name(alloc, letters(broken.family), broken.number)?;
     let place = node_name(alloc, names, texts, units, broken.node)?;
     refused_place(alloc, rule.as_str(), place.as_str())
+}
+
+fn kind_name(kind: Constraint) -> &'static str
+    ensures { result.now ≡ changes.kind_name kind }
+{
+    match kind {
+        Constraint::Assign => "ASSIGN",
+        Constraint::Member => "MEMBER",
+        Constraint::Field => "FIELD",
+        Constraint::Override => "OVERRIDE",
+        Constraint::Overload => "OVERLOAD",
+        Constraint::Result => "RESULT",
+        Constraint::Throws => "THROWS",
+        Constraint::Arm => "ARM",
+    }
+}
+
+fn rule_against(against: Against) -> &'static str
+    ensures { result.now ≡ changes.rule_against against }
+{
+    match against {
+        Against::Unchecked(_) => "S21",
+        Against::NoPlace => "V1",
+        Against::NoTarget(_) => "V2",
+        Against::NotAbove(_) => "V3",
+        Against::Unmet(unmet) => kind_name(unmet.kind),
+        Against::Kept(_) => "KEEP",
+    }
+}
+
+fn node_against(against: Against) -> Option<u32>
+    ensures { result ≡ changes.node_against against }
+{
+    match against {
+        Against::Unchecked(node) => Some(node),
+        Against::NoPlace => None,
+        Against::NoTarget(node) => Some(node),
+        Against::NotAbove(node) => Some(node),
+        Against::Unmet(unmet) => Some(unmet.node),
+        Against::Kept(node) => Some(node),
+    }
+}
+
+/// The refusal of what stands against a change of these files.
+pub fn against_line(
+    alloc: Global,
+    names: &[String],
+    texts: &[Items<u8>],
+    units: &[SourceUnit],
+    against: Against,
+) -> Result<String, NoMemory>
+    requires small { AreSmall texts.now }
+    ensures { (fs : Files) → inputs fs ≡ map string_bytes names.now → IfOk result (λ r. string_bytes r ≡ changes.against_line fs texts.now (map unit_plain units.now) against) }
+{
+    let place = node_name(alloc, names, texts, units, node_against(against))?;
+    refused_place(alloc, rule_against(against), place.as_str())
 }
 
 // The first byte of an operation.

@@ -1,6 +1,7 @@
 -- The lines that are put.
-use Rattle.std.specs.Prelude.{ℕ, List, [], ◌∷◌, ◌++◌, length, codes}
+use Rattle.std.specs.Prelude.{ℕ, List, [], ◌∷◌, ◌++◌, length, flat_map, codes}
 use Rattle.std.specs.Fmt.{decimal}
+use Rattle.std.specs.List.{sum_by}
 use Rattle.edit_writer.specs.declared.places.Place.{Place}
 use Rattle.edit_writer.specs.declared.edits.Edit.{Edit}
 
@@ -26,6 +27,34 @@ abbrev pub edit_report : List ℕ → Edit → List ℕ
 edit_report file e =
     line_of (codes "edit" ∷ file ∷ decimal e.from ∷ decimal e.to ∷ decimal (length e.text) ∷ e.text ∷ [])
     ++ one_edit
+
+-- `edit FILE FROM TO BYTES TEXT`
+abbrev pub edit_line : List ℕ → Edit → List ℕ
+edit_line file e = line_of (codes "edit" ∷ file ∷ decimal e.from ∷ decimal e.to ∷ decimal (length e.text) ∷ e.text ∷ [])
+
+-- the lines of the edits of files, file by file
+abbrev pub edit_lines : List (List ℕ) → List (List Edit) → List ℕ
+edit_lines (file ∷ files) (es ∷ ess) = flat_map (edit_line file) es ++ edit_lines files ess
+edit_lines _ _ = []
+
+-- the last line of a change of so many edits
+abbrev pub done_edits : ℕ → List ℕ
+done_edits count = line_of (codes "done" ∷ decimal count ∷ codes "edits" ∷ [])
+
+-- the report of the edits of files
+abbrev pub change_report : List (List ℕ) → List (List Edit) → List ℕ
+change_report files edits = edit_lines files edits ++ done_edits (sum_by length edits)
+
+-- the line of a type's name, and the last line of so many
+abbrev pub type_line : List ℕ → List ℕ
+type_line name = line_of (codes "type" ∷ name ∷ [])
+
+abbrev pub done_types : ℕ → List ℕ
+done_types count = line_of (codes "done" ∷ decimal count ∷ codes "types" ∷ [])
+
+-- the report of types with these names
+abbrev pub types_report : List (List ℕ) → List ℕ
+types_report names = flat_map type_line names ++ done_types (length names)
 
 -- a refusal without a place
 abbrev pub refused : List ℕ → List ℕ

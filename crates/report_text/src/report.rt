@@ -10,7 +10,7 @@ use java_tree::NoMemory;
 use std::alloc::Global;
 
 // The line's front, up to the space behind TO.
-fn edit_front(alloc: Global, file: &str, edit: &Edit) -> Result<String, NoMemory>
+pub(crate) fn edit_front(alloc: Global, file: &str, edit: &Edit) -> Result<String, NoMemory>
     ensures { IfOk result (λ r. string_bytes r ≡ spec.spaced (codes "edit" ∷ file.now ∷ decimal edit.now.from ∷ decimal edit.now.to ∷ [])) }
 {
     Ok(format!(in alloc; "edit {file} {} {} ", edit.from, edit.to)?)

@@ -10,6 +10,7 @@ use Rattle.core_meaning.specs.declared.values.State.{State}
 use Rattle.core_meaning.specs.Outcome.{Outcome, Gives, with_reference, with_some, with_units}
 use Rattle.core_meaning.specs.Texts.{length_of}
 use Rattle.core_meaning.specs.Members.{char_at}
+use Rattle.java_strings.proofs.Comparing.{low_length}
 use Rattle.run_frames.specs.Frames.{valued}
 use Rattle.run_calls.specs.Units.{object_in, refused, units_in}
 
@@ -40,10 +41,6 @@ with_reference_by (v.Truth z) s f = refl
 with_reference_by (v.Text z) s f = refl
 
 -- ---- indices
-
-pub low_length : (n : ℕ) → cast_signed w32 (n % 2 ^ 32) ≡ int_wrap w32 (pos n)
-unfolding int_wrap
-low_length n = refl
 
 -- how long a string says it is is never more than it has
 signed_at_most : (m n : ℕ) → m ≤ n → cast_signed w32 m ≤ℤ pos n

@@ -33,7 +33,7 @@ pub(crate) fn compare_references<'a>(
 }
 
 /// The identity hash of an object or array: the low 32 bits of its number.
-#[tactic(auto, using(crate::proofs::Units::low_length))]
+#[tactic(auto, using(java_strings::proofs::Comparing::low_length))]
 pub(crate) fn hash_identity<'a>(
     alloc: Global,
     run: &mut Run<'a>,

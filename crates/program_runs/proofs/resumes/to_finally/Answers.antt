@@ -3,7 +3,7 @@ use Rattle.core_meaning.specs.Outcome.{Gives, finally, with_some}
 use Rattle.run_frames.specs.Frames.{ended}
 use Rattle.run_frames.specs.Runs.{comes, place_of, whole}
 use Rattle.run_frames.proofs.Steps.{ok_as}
-use Rattle.program_runs.specs.Ends.{last_block}
+use Rattle.run_statements.specs.Parts.{last_block}
 use Rattle.program_runs.proofs.Wrong.{endings_of}
 use Rattle.program_runs.proofs.resumes.to_finally.Goals as goal
 

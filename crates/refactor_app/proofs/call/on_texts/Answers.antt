@@ -3,7 +3,8 @@ use Rattle.std.specs.String.{string_bytes}
 use Rattle.refactor_app.specs.Asked.{task_files}
 use Rattle.refactor_app.specs.Stops.{TellsStop}
 use Rattle.refactor_app.specs.Course as way
-use Rattle.refactor_app.proofs.Courses.{held_long, held_small, map_length, made_so, broken}
+use Rattle.checked_files.proofs.Held.{held_long, held_small}
+use Rattle.refactor_app.proofs.Courses.{map_length, made_so, broken}
 use Rattle.refactor_app.proofs.call.on_texts.Goals as goal
 
 pub parse_files-requires-clause-few : goal.parse_files-requires-clause-few

@@ -6,14 +6,16 @@ use Rattle.java_tree.specs.declared.tree.SourceUnit.{SourceUnit}
 use Rattle.built_in_types.specs.BuiltIns.{with_words}
 use Rattle.source_files.specs.Trees.{AreTrees}
 use Rattle.refactor_app.specs.Asked.{task_files}
-use Rattle.refactor_app.specs.Declarations.{IsBroken, broken_line}
-use Rattle.refactor_app.specs.Judged.{AreDeclaredAs}
+use Rattle.checked_files.specs.Declarations.{IsBroken}
+use Rattle.refactor_app.specs.Declarations.{broken_line}
+use Rattle.checked_files.specs.Judged.{AreDeclaredAs}
 use Rattle.refactor_app.specs.Words.{Files}
 use Rattle.refactor_app.specs.Course as way
 use Rattle.refactor_app.specs.Refusals as refusal
-use Rattle.refactor_app.proofs.Courses.{map_length, users_within, held_small, made}
-use Rattle.refactor_app.proofs.OneDeclared.{words_table}
-use Rattle.refactor_app.proofs.Tables.{front_taken, front_long, built_in_first, names_few}
+use Rattle.checked_files.proofs.Held.{held_small}
+use Rattle.refactor_app.proofs.Courses.{map_length, users_within, made}
+use Rattle.checked_files.proofs.Tables.{words_table, names_few}
+use Rattle.refactor_app.proofs.Tables.{front_taken, front_long, built_in_first}
 use Rattle.refactor_app.proofs.call.on_trees.Goals as goal
 
 pub judge_declarations-requires-clause-users : goal.judge_declarations-requires-clause-users

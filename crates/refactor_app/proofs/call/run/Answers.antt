@@ -2,13 +2,8 @@ use Rattle.std.proofs.Common.{inl, inr, map, refl}
 use Rattle.std.specs.String.{string_bytes}
 use Rattle.refactor_app.specs.Course as way
 use Rattle.refactor_app.specs.Refusals as refusal
-use Rattle.refactor_app.proofs.Courses.{made, asks_other, type_of}
+use Rattle.refactor_app.proofs.Courses.{made, asks_other}
 use Rattle.refactor_app.proofs.call.run.Goals as goal
-
-pub on_task-requires : goal.on_task-requires
-on_task-requires g c =
-    let asks = rw c.in-Ok-Asked.field-0-is at c.in-Ok-Asked.ensures in
-    type_of (map string_bytes c.args.words.now) c.in-Some.task (c.in-Some.ensures.some (map string_bytes c.args.words.now) asks)
 
 pub returns-in-Ok-Usage : goal.returns-in-Ok-Usage
 returns-in-Ok-Usage g c =
@@ -25,4 +20,4 @@ returns-in-Some g c =
 pub returns-in-None : goal.returns-in-None
 returns-in-None g c =
     let asks = rw c.in-Ok-Asked.field-0-is at c.in-Ok-Asked.ensures in
-    way.Course.refuses (refusal.Refusal.n1 (asks_other (map string_bytes c.args.words.now) c.in-Ok-Asked.request asks c.in-None.ensures.no_change c.in-None.ensures.no_check c.in-None.ensures.no_run)) refl c.put.ensures
+    way.Course.refuses (refusal.Refusal.n1 (asks_other (map string_bytes c.args.words.now) c.in-Ok-Asked.request asks c.in-None.ensures.no_change c.in-None.ensures.no_types c.in-None.ensures.no_check c.in-None.ensures.no_run)) refl c.put.ensures

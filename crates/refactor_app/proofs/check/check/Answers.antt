@@ -1,6 +1,6 @@
 use Rattle.std.proofs.Common.{subst}
 use Rattle.checker.specs.Checking.{IsCheckedBy}
-use Rattle.refactor_app.proofs.Checking.{of_split}
+use Rattle.checked_files.proofs.Tables.{of_split}
 use Rattle.refactor_app.proofs.check.check.Goals as goal
 
 pub check_files-requires-clause-program : goal.check_files-requires-clause-program

@@ -1,4 +1,4 @@
-use Rattle.refactor_app.proofs.Excluding.{usage, missing, refused, threw, bound}
+use Rattle.refactor_app.proofs.Excluding.{usage, missing, threw, bound}
 use Rattle.refactor_app.proofs.laws.answers_exclude.Goals as goal
 
 pub returns-clause-usage : goal.returns-clause-usage
@@ -6,9 +6,6 @@ returns-clause-usage c = usage
 
 pub returns-clause-missing : goal.returns-clause-missing
 returns-clause-missing c = missing
-
-pub returns-clause-refused : goal.returns-clause-refused
-returns-clause-refused c = refused
 
 pub returns-clause-threw : goal.returns-clause-threw
 returns-clause-threw c = threw

@@ -1,0 +1,2 @@
+pub mod FileEdits
+pub mod NewFiles

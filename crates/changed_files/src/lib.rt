@@ -1,0 +1,12 @@
+//! The edits of a change of declared types, file by file, and the new files.
+#![tactic(auto)]
+
+mod file;
+mod files;
+mod import;
+mod order;
+
+pub use file::edits_of;
+pub use files::{NewFiles, new_files};
+pub use import::import_edit;
+pub use order::are_ordered;

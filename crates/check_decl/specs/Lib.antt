@@ -1,3 +1,0 @@
-pub mod Scopes
-pub mod Holds
-pub mod Agreement

@@ -1,0 +1,5 @@
+class A {
+  public static void main(String[] args) {
+    System.out.println(1 - 2);
+  }
+}

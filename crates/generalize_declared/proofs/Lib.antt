@@ -1,0 +1,5 @@
+mod Begins
+mod Files
+mod Listed
+mod Pushes
+mod Targets

@@ -1,5 +1,0 @@
-pub mod Standing
-pub mod Counts
-pub mod Kept
-pub mod MainSteps
-pub mod Moved

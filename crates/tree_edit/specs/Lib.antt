@@ -1,4 +1,0 @@
-pub mod Roots
-pub mod Locals
-pub mod Literals
-pub mod Order

@@ -1,0 +1,4 @@
+pub mod Each
+pub mod Forms
+pub mod Lists
+pub mod Steps

@@ -1,0 +1,14 @@
+use Rattle.std.proofs.Common.{sym, ap}
+use Rattle.java_core.specs.View.{plain}
+use Rattle.thrown_exceptions.proofs.Steps.{ok_as}
+use Rattle.type_constraints.specs.Arguments as ar
+use Rattle.type_constraints.specs.Asked.{asked}
+use Rattle.type_constraints.proofs.arguments.takes_alike.Goals as goal
+
+pub returns-in-Some : goal.returns-in-Some
+returns-in-Some c =
+    λ f are ts ties.
+    let a = asked c.args.at.now f ts in
+    ok_as c.type_takes_alike.result _ _
+    (sym (ap (ar.takes_alike a (plain c.args.x.now)) c.in-Some.is))
+    (c.type_takes_alike.ensures f are ts ties)

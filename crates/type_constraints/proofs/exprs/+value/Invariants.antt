@@ -1,0 +1,19 @@
+use Rattle.std.proofs.Common.{◌≡◌, drop}
+use Rattle.std.specs.Option.{option_map}
+use Rattle.java_core.specs.View.{maybe, plain, plains}
+use Rattle.type_constraints.specs.Constraints as spec
+use Rattle.type_constraints.proofs.Each.{Each}
+use Rattle.thrown_exceptions.proofs.Heights.{height, heights, maybe_height}
+use Rattle.type_constraints.proofs.exprs.+value.Given as goal
+
+abbrev pub decreases-value : goal.decreases-value
+decreases-value l = height (plain l.e.now)
+
+abbrev pub decreases-maybe_value : goal.decreases-maybe_value
+decreases-maybe_value l = maybe_height (maybe (option_map plain l.x.now))
+
+abbrev pub decreases-values : goal.decreases-values
+decreases-values l = heights (plains l.xs.now)
+
+abbrev pub invariant-values-loop-x : goal.invariant-values-loop-x
+invariant-values-loop-x l = Each l.at (λ a. spec.values a (plains (drop l.x-index l.xs)) l.first ≡ spec.values a (plains l.xs) l.fn.first)

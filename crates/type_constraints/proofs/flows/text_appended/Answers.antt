@@ -1,0 +1,12 @@
+use Rattle.std.proofs.Common.{◌∙◌}
+use Rattle.std.specs.Prelude.{not}
+use Rattle.thrown_exceptions.proofs.Steps.{pair}
+use Rattle.type_constraints.specs.declared.unmet.Constraint.TheVariants as kind
+use Rattle.type_constraints.specs.Unmets.{unless}
+use Rattle.type_constraints.proofs.Steps.{node_at}
+use Rattle.type_constraints.proofs.flows.text_appended.Goals as goal
+
+pub returns : goal.returns
+returns c =
+    λ f are ts ties.
+    c.unless.ensures ∙ pair (λ b n. unless (not b) n kind.Assign c.args.first) _ _ _ _ (c.in_ok-is_changed.ensures f are ts ties) (node_at c.args.x.now)

@@ -1,0 +1,14 @@
+use Rattle.std.proofs.Common.{ap}
+use Rattle.java_core.specs.View.{plain, var_plain}
+use Rattle.thrown_exceptions.proofs.Steps.{ok_as}
+use Rattle.type_constraints.specs.Asked.{asked}
+use Rattle.type_constraints.specs.Changed as ch
+use Rattle.type_constraints.proofs.stmts.over.Goals as goal
+
+pub returns : goal.returns
+returns c =
+    λ f are ts ties.
+    let a = asked c.args.at.now f ts in
+    ok_as c.for_each.result _ _
+    (ap (ch.for_each a (var_plain c.args.var.now) (plain c.args.x.now)) (c.in_ok-first.ensures f are ts ties))
+    (c.for_each.ensures f are ts ties)

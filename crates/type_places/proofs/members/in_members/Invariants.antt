@@ -1,0 +1,7 @@
+use Rattle.std.proofs.Common.{◌≡◌, drop, map}
+use Rattle.java_core.specs.View.{member_plain}
+use Rattle.type_places.specs.Places as spec
+use Rattle.type_places.proofs.members.in_members.Given as goal
+
+abbrev pub invariant-loop-member : goal.invariant-loop-member
+invariant-loop-member l = spec.in_members l.w l.at (map member_plain (drop l.member-index l.members)) l.found ≡ spec.in_members l.w l.at (map member_plain l.members) l.fn.found

@@ -1,0 +1,2 @@
+package lib;
+public interface Lines extends Iterable<String> { }

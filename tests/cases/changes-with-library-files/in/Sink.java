@@ -1,0 +1,5 @@
+package lib;
+public interface Sink {
+  void take(String s);
+  String last();
+}
