@@ -2,7 +2,6 @@
 
 ghost use Rattle.std.specs.Prelude.{◌≡◌, ◌<◌, ◌==◌, ℕ, length, slice_get, Some, IfOk, IfSome};
 ghost use Rattle.std.specs.Option.{option_copied};
-ghost use Rattle.java_core.specs.View.{program_plain};
 ghost use Rattle.source_files.specs.Held.{AreSmall};
 ghost use Rattle.type_facts.specs.Facts.{AreFacts, Facts, IsReady};
 ghost use Rattle.unchecked_ops.specs.Programs.{AreFileFacts};

@@ -1,6 +1,6 @@
 //! The name of a type with its package's.
 
-ghost use Rattle.std.specs.Prelude.{◌≡◌, ◌++◌, ◌∷◌, map, IfOk, OnOk, slice_get};
+ghost use Rattle.std.specs.Prelude.{◌≡◌, ◌++◌, ◌∷◌, IfOk, OnOk, slice_get};
 ghost use Rattle.generalize_declared.specs.Plans as spec;
 
 use class_world::World;

@@ -1,5 +1,5 @@
 -- Words ask for one thing.
-use Rattle.std.proofs.Common.{◌≡◌, ℕ, inl, inr, List, [], ◌∷◌, refl, sym, ◌∙◌, ap, subst, arith}
+use Rattle.std.proofs.Common.{◌≡◌, ℕ, inl, inr, List, ◌∷◌, refl, sym, ◌∙◌, ap, subst, arith}
 use Rattle.std.proofs.lemmas.Fmt.{decimal_injective}
 use Rattle.command_words.specs.Names.{IsNumber}
 use Rattle.command_words.specs.Table.{parts_of}

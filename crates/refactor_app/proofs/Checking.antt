@@ -2,7 +2,6 @@
 use Rattle.std.proofs.Common.{◌≡◌, ℕ, List, length, map, take, drop, sym, ◌∙◌, ap, subst}
 use Rattle.std.specs.String.{string_bytes}
 use Rattle.java_tree.specs.declared.tree.SourceUnit.{SourceUnit}
-use Rattle.java_tree.specs.Plain as t
 use Rattle.java_tree.specs.View.{unit_plain}
 use Rattle.decl_table.specs.Program.{Program}
 use Rattle.decl_table.specs.Judged.{IsProgram}

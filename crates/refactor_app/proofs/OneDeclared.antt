@@ -1,5 +1,5 @@
 -- The files of a program declare one program, whose declarations break one rule or none.
-use Rattle.std.proofs.Common.{◌≡◌, ℕ, ◌⊎◌, inl, inr, List, [], ◌∷◌, take, drop, Some, refl, sym, ◌∙◌, ap, subst, arith}
+use Rattle.std.proofs.Common.{◌≡◌, ℕ, ◌⊎◌, inl, inr, List, take, drop, Some, refl, sym, ◌∙◌, ap, subst, arith}
 use Rattle.java_tree.specs.Names.{IsTable}
 use Rattle.java_tree.specs.Plain.{SourceUnit}
 use Rattle.java_tree.specs.declared.fault.Broken.{Broken}

@@ -1,6 +1,5 @@
 -- What is said of a question about a place of checked files: what stands against it, the new files of a change, or the types to which the place may go.
-use Rattle.std.specs.Prelude.{◌≡◌, ℕ, List, [], ◌∷◌, ◌++◌, map, length, take, Option, Some, None, slice_get, codes}
-use Rattle.std.specs.Fmt.{decimal}
+use Rattle.std.specs.Prelude.{◌≡◌, ℕ, List, [], map, length, take, Option, Some, None, slice_get, codes}
 use Rattle.std.specs.String.{string_bytes}
 use Rattle.java_tree.specs.Plain.{SourceUnit}
 use Rattle.java_tree.specs.View.{unit_plain}

@@ -1,5 +1,5 @@
 -- A verdict on a question about a place, as the code has it.
-use Rattle.std.specs.Prelude.{◌≡◌, ℕ, List, [], ◌∷◌, ◌++◌, length, map, take}
+use Rattle.std.specs.Prelude.{◌≡◌, ℕ, List, [], ◌∷◌, ◌++◌, map}
 use Rattle.std.specs.String.{string_bytes}
 use Rattle.java_tree.specs.Plain.{SourceUnit}
 use Rattle.java_tree.specs.View.{unit_plain}
@@ -15,7 +15,7 @@ use Rattle.report_text.specs.Report.{change_report, types_report, write_fault}
 use Rattle.refactor_app.specs.declared.decide.Output.{Output}
 use Rattle.refactor_app.specs.declared.decide.Verdict.{Verdict}
 use Rattle.refactor_app.specs.declared.decide.Verdict.TheVariants as v
-use Rattle.refactor_app.specs.Words.{Files, Request}
+use Rattle.refactor_app.specs.Words.{Request}
 use Rattle.refactor_app.specs.Changes.{IsAnsweredBy, Said, Says, Stands, Changed, Listed, against_line, out_names, user_edits, user_texts}
 
 pub record IsOutput (name text : List ℕ) (o : Output) : Type 0 where

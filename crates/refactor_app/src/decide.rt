@@ -80,7 +80,7 @@ fn wish_of(q: &Asked<'_>) -> Option<Wish>
 
 // The folder of the new files.
 fn out_of<'a>(want: Want<'a>) -> &'a str
-    ensures { result.now ≡ spec.out_of (aim_of want) }
+    ensures { result.now ≡ spec.out_of (aim_of want.entry) }
 {
     match want {
         Want::Become { out, .. } => out,

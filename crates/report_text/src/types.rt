@@ -1,6 +1,6 @@
 //! The report of the types to which a place may go.
 
-ghost use Rattle.std.specs.Prelude.{◌≡◌, length, map, flat_map, IfOk};
+ghost use Rattle.std.specs.Prelude.{◌≡◌, map, flat_map, IfOk};
 ghost use Rattle.std.specs.String.{string_bytes};
 ghost use Rattle.report_text.specs.Report as spec;
 

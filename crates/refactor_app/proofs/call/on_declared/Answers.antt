@@ -13,7 +13,7 @@ use Rattle.refactor_app.specs.Refusals.{AsksFew, HasDeclared}
 use Rattle.refactor_app.specs.Written.{ChangesSo}
 use Rattle.refactor_app.proofs.Checking.{check_asked, of_files, user_count}
 use Rattle.checked_files.proofs.Held.{held_small}
-use Rattle.refactor_app.proofs.Courses.{map_length, users_within, on_check, on_placed, on_run}
+use Rattle.refactor_app.proofs.Courses.{map_length, users_within, on_check, on_changed, on_run}
 use Rattle.refactor_app.proofs.call.on_declared.Goals as goal
 
 pub check-requires-clause-small : goal.check-requires-clause-small
@@ -97,7 +97,7 @@ returns-in-Place g c words asks few =
     let changes = subst (λ (us : List SourceUnit). ChangesSo a.holds b.holds a.write_faults b.write_faults a.put b.put a.faults b.faults q c.args.texts.now c.args.table.now (map unit_plain us)
     d.declared.program c.args.declared.now.world c.in-Ok.checked c.on_place.result) c.as_slice-in-Place.ensures
     (c.on_place.ensures d.declared.program (of_files _ _ names c.args.table.now c.args.units c.as_slice-in-Place.result.now d.declared.program many c.requires.words c.as_slice-in-Place.ensures d.declared.files)) in
-    on_placed words q c.args.texts.now names (map unit_plain c.args.units) a b c.on_place.result c.args.declared.now.world h d.world (rw c.in-Place.is at asks) c.args.table.now c.requires.words
+    on_changed words q c.args.texts.now names (map unit_plain c.args.units) a b c.on_place.result c.args.declared.now.world h d.world (rw c.in-Place.is at asks) c.args.table.now c.requires.words
     c.in-Ok.checked told changes
 
 pub returns-in-Check : goal.returns-in-Check

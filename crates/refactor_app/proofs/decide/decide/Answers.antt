@@ -1,4 +1,4 @@
-use Rattle.std.proofs.Common.{◌≡◌, ◌++◌, List, length, map, refl, sym, ap, subst, arith}
+use Rattle.std.proofs.Common.{◌≡◌, ◌++◌, List, length, map, refl, sym, subst, arith}
 use Rattle.std.specs.String.{string_bytes}
 use Rattle.java_tree.specs.declared.tree.SourceUnit.{SourceUnit}
 use Rattle.java_tree.specs.View.{unit_plain}
@@ -14,8 +14,8 @@ use Rattle.refactor_app.proofs.Decisions.{decided, whole}
 use Rattle.refactor_app.proofs.Faults.{low_at}
 use Rattle.refactor_app.proofs.decide.decide.Goals as goal
 
-pub generalize-requires-clause-file : goal.generalize-requires-clause-file
-generalize-requires-clause-file c =
+pub answered-requires-clause-file : goal.answered-requires-clause-file
+answered-requires-clause-file c =
     let users = c.args.q.now.inputs.users.now in
     let low = low_at (map string_bytes users) c.in-Some.wish.file _ c.in-Some.ensures.file in
     let long = map_length string_bytes users in
@@ -29,13 +29,8 @@ returns c = λ p is.
     let program = of_split _ c.args.table.now c.args.units.now us ls p c.split_at.ensures.front c.split_at.ensures.back is in
     let stands = subst (λ j. StandsFor c.in_ok-meant.meant j (files_of (map unit_plain us) (map unit_plain ls))) (c.java_names.ensures p.words program.2) c.in_ok-meant.ensures in
     let all : us ++ ls ≡ c.args.units.now = whole _ c.args.units.now us ls c.split_at.ensures.front c.split_at.ensures.back in
-    decided c.verdict_of.result (request_of c.args.q.now) c.args.texts.now c.args.table.now (map unit_plain c.args.units.now) p c.args.declared.now.world c.args.checked.now c.in_ok-answer.answer
-    (record {
-      source = _;
-      is_source = record { has_texts = refl; has_units = refl; has_users = sym (map_length string_bytes c.args.q.now.inputs.users.now); has_names = refl; has_core = refl; has_operations = c.as_slice.ensures };
-      wish = c.in-Some.wish;
-      is_wish = c.in-Some.ensures;
-      answers = λ fs facts. c.in_ok-answer.ensures fs
-          (subst (λ (xs : List SourceUnit). AreFileFacts q (length xs) fs) all (are_asked p q c.args.table.now us ls program stands (c.length_name.ensures p.words program.2) fs facts));
-    })
-    c.verdict_of.ensures
+    decided c.answered.result (request_of c.args.q.now) c.args.texts.now c.args.table.now (map unit_plain c.args.units.now) p c.args.declared.now.world c.args.checked.now _ c.in-Some.wish _
+    (record { has_texts = refl; has_units = refl; has_users = sym (map_length string_bytes c.args.q.now.inputs.users.now); has_names = refl; has_core = refl; has_operations = c.as_slice.ensures })
+    c.in-Some.ensures
+    (λ fs facts. subst (λ (xs : List SourceUnit). AreFileFacts q (length xs) fs) all (are_asked p q c.args.table.now us ls program stands (c.length_name.ensures p.words program.2) fs facts))
+    c.answered.ensures
