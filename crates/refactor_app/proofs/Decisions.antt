@@ -11,9 +11,12 @@ use Rattle.checker.specs.Checking.{AreAllFacts}
 use Rattle.checker.specs.declared.check.CheckedProgram.{CheckedProgram}
 use Rattle.generalize_declared.specs.declared.asked.CheckedSource.{CheckedSource}
 use Rattle.generalize_declared.specs.declared.asked.Wish.{Wish}
+use Rattle.generalize_declared.specs.declared.command.Answer.{Answer}
+use Rattle.generalize_declared.specs.declared.command.Answer.TheVariants as answer
+use Rattle.generalize_declared.specs.Plans as plans
 use Rattle.refactor_app.specs.declared.decide.Verdict.{Verdict}
-use Rattle.refactor_app.specs.Words.{Request}
-use Rattle.refactor_app.specs.Changes.{IsSource, IsWish}
+use Rattle.refactor_app.specs.Words.{Become, Request}
+use Rattle.refactor_app.specs.Changes.{IsSource, IsWish, Said, Says, said_of}
 use Rattle.refactor_app.specs.Decided.{Decides, IsVerdict, SaysSo}
 
 -- the files of both parts of a list are those of the list
@@ -29,3 +32,13 @@ decided (Ok v) q texts table units p w c s x are source wish facts (a, says, tol
   subst (λ us. IsVerdict q texts us a v) source.has_units (subst (λ ts. IsVerdict q ts (map unit_plain s.units.now) a v) source.has_texts told),
 )
 decided (Err e) q texts table units p w c s x are source wish facts told = told
+
+-- what `generalize` answers, as it is said
+pub as_said : (fs : ℕ → Facts) (s : CheckedSource) (x : Wish) (out ty : List ℕ) (a : Answer) → plans.Answers fs s x ty a → Says fs s x (Become out ty) (said_of a)
+as_said fs s x out ty (answer.Against a) h = h
+as_said fs s x out ty (answer.Changed new) h = h
+
+pub says_so : (r : Result Verdict NoMemory) (q : Request) (s : CheckedSource) (x : Wish) (are : (ℕ → Facts) → Type 0) (a : Said) → ((fs : ℕ → Facts) → are fs → Says fs s x q.aim a)
+    → IfOk r (IsVerdict q s.texts.now (map unit_plain s.units.now) a) → IfOk r (SaysSo q s x are)
+says_so (Ok v) q s x are a says told = (a, says, told)
+says_so (Err e) q s x are a says told = told
