@@ -56,7 +56,9 @@ def end_of(report):
 
 
 def difference(status, report, right):
-    """A line on what differs, or an empty text."""
+    """A line on what differs, or an empty text. Where java throws an error for want of memory jgen ends in another way, and nothing is compared."""
+    if b"java.lang.OutOfMemoryError" in right:
+        return ""
     if report != right:
         pairs = zip(right.split(b"\n") + [b"nothing"], report.split(b"\n") + [b"nothing"])
         differing = [pair for pair in enumerate(pairs, 1) if pair[1][0] != pair[1][1]]
