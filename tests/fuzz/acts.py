@@ -591,8 +591,8 @@ class Actor(works.Worker):
         return "class M {\n  %s\n  public static void main(String[] w) throws Exception {\n    %s\n  }\n}\n" % ("\n  ".join(parts), "\n    ".join(calls))
 
 
-def program(chance):
-    maker = Actor(chance)
+def program(chance, maker=Actor):
+    maker = maker(chance)
     maker.plan()
     words = [maker.one("a", "bc", "-1", "x=y", "long", "é") for _ in range(maker.one(0, 1, 2, 2, 3))]
     texts = [maker.type_text(each) for each in maker.types.values()]

@@ -26,8 +26,8 @@ def require_tree(name, text):
     reader.tokens_in_file(name, text, 0)
 
 
-def check(names, texts, users, has_flow=True):
-    """The answer for files, of which the first `users` are the user's."""
+def check(names, texts, users, has_flow=True, only_users=False):
+    """The answer for files, of which the first `users` are the user's. With `only_users` the bodies of the library are taken as right."""
     try:
         for name, text in zip(names, texts):
             require_tree(name, text)
@@ -40,7 +40,7 @@ def check(names, texts, users, has_flow=True):
         answer = reader.refused(rule, "-" if file is None else reader.place_of(names[file], texts[file], at))
         return Checked(rule, answer.report, answer.status)
     declares.OBJECT[:] = [program.object]
-    tree = types.Typed(program, texts)
+    tree = types.Typed(program, texts, only_users)
     broken, letter = tree.first_broken(), "T"
     if broken is None and has_flow:
         broken, letter = flows.first_broken(tree), "F"

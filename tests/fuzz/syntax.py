@@ -114,17 +114,19 @@ class Parser(trees.Reader):
         if not is_interface:
             self.take("class")
         name = self.name()
+        name_end = self.tokens[self.next - 1].end
         if self.takes("<"):
             self.each(self.name)
             self.take(">")
-        above = self.each(self.ref) if self.takes("extends") else []
-        above += self.each(self.ref) if self.takes("implements") else []
+        extends = self.each(self.ref) if self.takes("extends") else []
+        implements = self.each(self.ref) if self.takes("implements") else []
         self.take("{")
         members = []
         while not self.takes("}"):
             if not self.takes(";"):
                 members.append(self.member())
-        return self.node("TypeDecl", at, above, members, mods=mods, name=name, is_interface=is_interface, members=members)
+        return self.node("TypeDecl", at, extends, implements, members, mods=mods, name=name, name_end=name_end, extends=extends, implements=implements,
+                         is_interface=is_interface, members=members)
 
     def member(self):
         at, mods = self.here(), self.mods()

@@ -10,9 +10,9 @@ from values import Local, Values
 class Typed:
     """The trees of a program with the types of their values. `pairs` joins each tree of a type with its declaration."""
 
-    def __init__(self, program, texts):
+    def __init__(self, program, texts, only_users=False):
         self.known = Known(program)
-        self.units = [read_unit(text, n) for n, text in enumerate(texts)]
+        self.units = [read_unit(text, n) for n, text in enumerate(texts) if program.files[n].is_user or not only_users]
         self.found = []
         self.unchecked = []
         self.pairs = []

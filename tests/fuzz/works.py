@@ -116,6 +116,8 @@ class Here:
 
 
 class Planner:
+    accesses = ("", "", "public ", "protected ")
+
     def __init__(self, chance):
         self.chance = chance
         self.has_library = self.is_likely(0.6)
@@ -197,7 +199,7 @@ class Planner:
         kinds = lambda n: [self.kind() for _ in range(n)]
         result = lambda: self.one("void", self.kind(), self.kind(), self.kind())
         throws = lambda: self.one([], [], [], ["X"], ["Z"])
-        access = lambda: self.one("", "", "public ", "protected ")
+        access = lambda: self.one(*self.accesses)
         self.signatures = [Method(name, kinds(self.one(0, 1, 1, 2)), result(), access=access(), throws=throws()) for name in "fgh"[:self.one(2, 3)]]
         self.signatures += [Method(name, kinds(self.one(0, 1, 2)), result(), is_static=True, throws=throws()) for name in "su"]
         self.private = Method("q", kinds(self.one(0, 1)), self.one("int", "String", "long"))

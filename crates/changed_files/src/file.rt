@@ -42,7 +42,8 @@ fn head_edit(alloc: Global, name: &[u8], head: Span) -> Result<Edit, NoMemory>
     })
 }
 
-fn add_heads(
+/// Puts the edits by which the heads at these spans become a name.
+pub fn add_heads(
     alloc: Global,
     name: &[u8],
     heads: &[Span],

@@ -73,8 +73,8 @@ fn new_texts(
     Ok(made)
 }
 
-// The new files that these edits make, if they can be made together.
-fn made(
+/// The new files that edits make, each text with its own: `None` where those of one text are not in order or pass its end.
+pub fn edited_files(
     alloc: Global,
     texts: &[Items<u8>],
     edits: Items<Items<Edit>>,
@@ -109,7 +109,7 @@ pub fn new_files(
         → IfOk result (AreNew texts.now tss (map unit_plain units.now) sees.now heads.now name.now full_name.now) }
 {
     match all_edits(alloc, texts, units, sees, heads, name, full_name)? {
-        Some(edits) => made(alloc, texts, edits),
+        Some(edits) => edited_files(alloc, texts, edits),
         None => Ok(None),
     }
 }

@@ -6,7 +6,7 @@ mod files;
 mod import;
 mod order;
 
-pub use file::edits_of;
-pub use files::{NewFiles, new_files};
+pub use file::{add_heads, edits_of};
+pub use files::{NewFiles, edited_files, new_files};
 pub use import::import_edit;
 pub use order::are_ordered;

@@ -7,6 +7,7 @@ use Rattle.command_words.specs.declared.request.Reading.{Reading}
 use Rattle.command_words.specs.declared.request.Reading.TheVariants.{Usage, Asked}
 use Rattle.command_words.specs.declared.request.Generalize.{Generalize}
 use Rattle.command_words.specs.declared.request.PlaceWords.{PlaceWords}
+use Rattle.command_words.specs.declared.request.ExtractWords.{ExtractWords}
 use Rattle.command_words.specs.Names.{IsNumber}
 use Rattle.command_words.specs.Table.{word_of, takes_files, Parts, parts_of}
 use Rattle.command_words.specs.Rules.{Meets, IsLowest}
@@ -54,3 +55,7 @@ pub record ArePlaceWords (own : List (List ℕ)) (g : PlaceWords) : Type 0 where
   pub are : own ≡ g.file.now ∷ line ∷ col ∷ []
   pub at_line : IsNumber line g.line × (0 < g.line)
   pub at_col : IsNumber col g.col × (0 < g.col)
+
+-- the words OUT CLASS NEWNAME METHOD ..
+abbrev pub AreExtractWords : (own : List (List ℕ)) → ExtractWords → Type 0
+AreExtractWords own g = own ≡ g.out.now ∷ g.class.now ∷ g.name.now ∷ map string_bytes g.methods.now

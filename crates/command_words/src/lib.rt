@@ -7,6 +7,6 @@ mod rules;
 mod table;
 mod word_set;
 
-pub use names::{is_identifier, number};
-pub use request::{Generalize, PlaceWords, Reading, Request, read_words};
+pub use names::{folder, is_identifier, number};
+pub use request::{ExtractWords, Generalize, PlaceWords, Reading, Request, read_words};
 pub use table::Command;

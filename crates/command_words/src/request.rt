@@ -5,7 +5,7 @@ ghost use Rattle.std.specs.String.{string_bytes};
 ghost use Rattle.command_words.specs.Rules.{HasShape, HasNumbers, NamesCommand};
 ghost use Rattle.command_words.specs.Table.{word_of};
 ghost use Rattle.command_words.specs.declared.table.Command.TheVariants as commands;
-ghost use Rattle.command_words.specs.Asked.{ArePlaceWords, Asks, AreNamed, MeetsReading, parts};
+ghost use Rattle.command_words.specs.Asked.{AreExtractWords, ArePlaceWords, Asks, AreNamed, MeetsReading, parts};
 
 use crate::names::place_number;
 use crate::rules::lowest_broken;
@@ -45,6 +45,15 @@ pub struct PlaceWords<'a> {
     pub file: &'a str,
     pub line: u64,
     pub col: u64,
+}
+
+/// The own words of `extract-interface`, by name.
+#[derive(Clone, Copy)]
+pub struct ExtractWords<'a> {
+    pub out: &'a str,
+    pub class: &'a str,
+    pub name: &'a str,
+    pub methods: &'a [String],
 }
 
 /// Reads the words of a command line.
@@ -105,6 +114,22 @@ impl<'a> Request<'a> {
                 file: file.as_str(),
                 line: place_number(line.as_str())?,
                 col: place_number(col.as_str())?,
+            }),
+            _ => None,
+        }
+    }
+
+    /// The own words of `extract-interface` by name, where the request has the words.
+    pub fn extract(&self) -> Option<ExtractWords<'a>>
+        ensures some { IfSome result (λ g. (self.now.command ≡ commands.ExtractInterface) × AreExtractWords (map string_bytes self.now.own.now) g) }
+        ensures none { IfNone result (self.now.command ≡ commands.ExtractInterface → HasShape commands.ExtractInterface (parts self.now) → ⊥) }
+    {
+        match (self.command, self.own) {
+            (Command::ExtractInterface, [out, class, name, methods @ ..]) => Some(ExtractWords {
+                out: out.as_str(),
+                class: class.as_str(),
+                name: name.as_str(),
+                methods,
             }),
             _ => None,
         }

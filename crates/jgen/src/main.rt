@@ -21,6 +21,10 @@ jgen: refactorings of Java programs, proved to keep what the programs do
       LINE and COL count from 1, COL bytes. The FILES stay as they are.
   jgen allowed FILE LINE COL -- FILES [+ LIBRARY FILES]
       Lists the types into which generalize may change the type at that place.
+  jgen extract-interface OUT CLASS NEWNAME METHOD .. -- FILES [+ LIBRARY FILES]
+      Gives CLASS an interface NEWNAME with all methods of these names that it
+      declares, in a new file beside that of CLASS, and changes each declared use
+      of CLASS into NEWNAME that may change. Writes all files under OUT.
   jgen check -- FILES [+ LIBRARY FILES]
       Checks that the files are a program that breaks no rule, and names its
       unchecked operations.
@@ -28,13 +32,17 @@ jgen: refactorings of Java programs, proved to keep what the programs do
       Checks the files as above, and runs the main method of CLASS, a class of the
       FILES, with ARGS. A step is an entry of a method or constructor, or a turn of
       a loop; the run ends where N steps, 100000000 at most, are not enough.
-  Other commands (extract-interface, pull-up, infer-type-arguments, workload)
-  are read and refused as N1, not built yet.
+  Other commands (pull-up, infer-type-arguments, workload) are read and refused
+  as N1, not built yet.
   jgen --help
   jgen --version
 
 What is reported, a line each:
   edit FILE FROM TO BYTES TEXT   the bytes FROM to before TO of FILE become TEXT
+  create FILE BYTES              the new file, named without OUT, and its size
+  kept PLACE because KIND NODE then PLACE
+                                 a use of CLASS stays, since it is tied to another
+  kept PLACE needs KIND NODE     a use of CLASS stays, since it needs the class
   done K edits                   the last line of a change
   type NAME                      a type to which a place may go
   done K types                   the last line of these

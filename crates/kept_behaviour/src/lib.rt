@@ -4,4 +4,5 @@
 mod kept;
 mod maps;
 
-pub use kept::keeps_behaviour;
+pub use kept::{keeps_behaviour, keeps_with_type};
+pub use maps::Inserted;

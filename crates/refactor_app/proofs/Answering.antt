@@ -5,6 +5,7 @@ use Rattle.tool_files.specs.Told.{Rose, Appends, AppendsSome}
 use Rattle.refactor_app.specs.declared.status.Status.{Status}
 use Rattle.refactor_app.specs.declared.status.Status.TheVariants as s
 use Rattle.refactor_app.specs.Answers.{IsBound, IsDone, IsRefused, IsThrew, IsUsage, IsMissing, IsReadFault, IsWriteFault, IsOutFault, IsOne, IsCut, Ends}
+use Rattle.refactor_app.specs.Answers as answers
 use Rattle.refactor_app.specs.Course.{Moment, Course}
 use Rattle.refactor_app.specs.Course as way
 
@@ -58,20 +59,23 @@ told words a b st (way.Course.runs {line = line} end.Normal runs same ends) =
     put_last words a b st s.Done line ends (λ p. inr (inr (inl (record { line = line; runs = runs; report = p; nothing = same }))))
     (λ whole p. inl (inr (inr (inl (record { line = line; runs = runs; report = p; nothing = same })))))
 told words a b st (way.Course.lists {q = q} {types = types} are same ends) =
-    put_last words a b st s.Done _ ends (λ p. inr (inr (inr (record { q = q; types = types; are = are; report = p; nothing = same }))))
-    (λ whole p. inl (inr (inr (inr (record { q = q; types = types; are = are; report = p; nothing = same })))))
+    put_last words a b st s.Done _ ends (λ p. inr (inr (inr (inl (record { q = q; types = types; are = are; report = p; nothing = same })))))
+    (λ whole p. inl (inr (inr (inr (inl (record { q = q; types = types; are = are; report = p; nothing = same }))))))
 told words a b st (way.Course.runs {line = line} (end.Threw k) runs same ends) =
     put_last words a b st s.Threw line ends (λ p. record { class = k; ended = record { line = line; runs = runs; report = p; nothing = same } })
     (λ whole p. inr (inr (inr (inr (inr (inr (inl (record { class = k; ended = record { line = line; runs = runs; report = p; nothing = same } }))))))))
 told words a b st (way.Course.runs {line = line} end.AtBound runs same ends) =
     put_last words a b st s.Bound line ends (λ p. record { line = line; runs = runs; report = p; nothing = same })
     (λ whole p. inr (inr (inr (inr (inr (inr (inr (record { line = line; runs = runs; report = p; nothing = same }))))))))
-told words a b st (way.Course.writes {q = q} {made = made} change w ends) =
+told words a b st (way.Course.writes (answers.IsAsked.change q made change) w ends) =
     put_last words a b st s.Done _ ends (λ p. inl (record { q = q; made = made; change = change; written = w; report = p }))
     (λ whole p. inl (inl (record { q = q; made = made; change = change; written = w; report = p })))
-told words a b st (way.Course.fails {q = q} {made = made} name change w rose ends) =
-    put_last words a b st s.WriteFault _ ends (λ p. (rose, record { q = q; made = made; change = change; name = name; failed = w; report = p }))
-    (λ whole p. inr (inr (inr (inr (inr (inl (record { q = q; made = made; change = change; name = name; failed = w; report = p })))))))
+told words a b st (way.Course.writes (answers.IsAsked.extraction q made h) w ends) =
+    put_last words a b st s.Done _ ends (λ p. inr (inr (inr (inr (record { q = q; made = made; extraction = h; written = w; report = p })))))
+    (λ whole p. inl (inr (inr (inr (inr (record { q = q; made = made; extraction = h; written = w; report = p }))))))
+told words a b st (way.Course.fails {x = x} name asked w rose ends) =
+    put_last words a b st s.WriteFault _ ends (λ p. (rose, record { writing = x; asked = asked; name = name; failed = w; report = p }))
+    (λ whole p. inr (inr (inr (inr (inr (inl (record { writing = x; asked = asked; name = name; failed = w; report = p })))))))
 told words a b st (way.Course.no_memory same put is) = subst (λ (st : Status). Says words a b st) (sym is) (same, put)
 
 pub says : (words : List (List ℕ)) (a b : Moment) (st wanted : Status) → Course words a b st → st ≡ wanted → Says words a b wanted

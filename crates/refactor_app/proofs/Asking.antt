@@ -3,8 +3,8 @@ use Rattle.std.proofs.Common.{◌≡◌, ℕ, inl, inr, List, ◌∷◌, refl, s
 use Rattle.std.proofs.lemmas.Fmt.{decimal_injective}
 use Rattle.command_words.specs.Names.{IsNumber}
 use Rattle.command_words.specs.Table.{parts_of}
-use Rattle.refactor_app.specs.Words.{Aim, Become, Types, aim_command, aim_words, Files, Request, Asks, AsksCheck, AsksSteps, Uses}
-use Rattle.refactor_app.proofs.OneSense.{change_or_check, change_or_run, check_or_run, one_split}
+use Rattle.refactor_app.specs.Words.{Aim, Become, Types, aim_command, aim_words, ExtractRequest, Files, Request, Asks, AsksCheck, AsksExtract, AsksSteps, Uses}
+use Rattle.refactor_app.proofs.OneSense.{change_or_check, change_or_run, change_or_extraction, check_or_run, check_or_extraction, run_or_extraction, one_split}
 
 one_number : (w : List ℕ) (m n : ℕ) → IsNumber w m → IsNumber w n → m ≡ n
 one_number w m n a b = decimal_injective m n (omega (arith, a.1)) (omega (arith, b.1)) (sym a.0 ∙ b.0)
@@ -63,13 +63,33 @@ one_steps ws m n a b x y =
     let count : x.asks.count ≡ y.asks.count = cc in
     one_number x.asks.count m n x.asks.at_steps (subst (λ (w : List ℕ). IsNumber w n) (sym count) y.asks.at_steps)
 
+same_extraction : (a b : ExtractRequest) → a.out ≡ b.out → a.class ≡ b.class → a.name ≡ b.name → a.methods ≡ b.methods → a.files ≡ b.files → a ≡ b
+same_extraction a b out class name methods files = rw (out, class, name, methods, files) refl
+
+pub one_extraction : (ws : List (List ℕ)) (a b : ExtractRequest) → AsksExtract ws a → AsksExtract ws b → a ≡ b
+one_extraction ws a b x y =
+    let rest : x.rest ≡ y.rest = let all = sym x.are ∙ y.are in cc in
+    let own : a.out ∷ a.class ∷ a.name ∷ a.methods ≡ b.out ∷ b.class ∷ b.name ∷ b.methods = sym x.own ∙ ap (λ (r : List (List ℕ)). (parts_of r).own) rest ∙ y.own in
+    let out : a.out ≡ b.out = cc in
+    let class : a.class ≡ b.class = cc in
+    let name : a.name ≡ b.name = cc in
+    let methods : a.methods ≡ b.methods = cc in
+    same_extraction a b out class name methods (of_words x.rest y.rest a.files b.files rest x.users x.libs y.users y.libs)
+
 pub one_files : (ws : List (List ℕ)) (a b : Files) → Uses ws a → Uses ws b → a ≡ b
 one_files ws a b (inl (q, x, is)) (inl (r, y, so)) = sym is ∙ ap (λ (q : Request). q.files) (one_request ws q r x y) ∙ so
 one_files ws a b (inl (q, x, is)) (inr (inl y)) = absurd (change_or_check ws q b x y)
-one_files ws a b (inl (q, x, is)) (inr (inr (n, y))) = absurd (change_or_run ws q n b x y)
+one_files ws a b (inl (q, x, is)) (inr (inr (inl (n, y)))) = absurd (change_or_run ws q n b x y)
+one_files ws a b (inl (q, x, is)) (inr (inr (inr (r, y, so)))) = absurd (change_or_extraction ws q r x y)
 one_files ws a b (inr (inl x)) (inl (q, y, is)) = absurd (change_or_check ws q a y x)
 one_files ws a b (inr (inl x)) (inr (inl y)) = one_check ws a b x y
-one_files ws a b (inr (inl x)) (inr (inr (n, y))) = absurd (check_or_run ws a n b x y)
-one_files ws a b (inr (inr (n, x))) (inl (q, y, is)) = absurd (change_or_run ws q n a y x)
-one_files ws a b (inr (inr (n, x))) (inr (inl y)) = absurd (check_or_run ws b n a y x)
-one_files ws a b (inr (inr (m, x))) (inr (inr (n, y))) = one_run ws m n a b x y
+one_files ws a b (inr (inl x)) (inr (inr (inl (n, y)))) = absurd (check_or_run ws a n b x y)
+one_files ws a b (inr (inl x)) (inr (inr (inr (q, y, is)))) = absurd (check_or_extraction ws a q x y)
+one_files ws a b (inr (inr (inl (n, x)))) (inl (q, y, is)) = absurd (change_or_run ws q n a y x)
+one_files ws a b (inr (inr (inl (n, x)))) (inr (inl y)) = absurd (check_or_run ws b n a y x)
+one_files ws a b (inr (inr (inl (m, x)))) (inr (inr (inl (n, y)))) = one_run ws m n a b x y
+one_files ws a b (inr (inr (inl (n, x)))) (inr (inr (inr (q, y, is)))) = absurd (run_or_extraction ws n a q x y)
+one_files ws a b (inr (inr (inr (q, x, is)))) (inl (r, y, so)) = absurd (change_or_extraction ws r q y x)
+one_files ws a b (inr (inr (inr (q, x, is)))) (inr (inl y)) = absurd (check_or_extraction ws b q y x)
+one_files ws a b (inr (inr (inr (q, x, is)))) (inr (inr (inl (n, y)))) = absurd (run_or_extraction ws n b q y x)
+one_files ws a b (inr (inr (inr (q, x, is)))) (inr (inr (inr (r, y, so)))) = sym is ∙ ap (λ (q : ExtractRequest). q.files) (one_extraction ws q r x y) ∙ so

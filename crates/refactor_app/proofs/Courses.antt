@@ -10,7 +10,7 @@ use Rattle.java_tree.specs.declared.fault.NoMemory.{NoMemory}
 use Rattle.tool_files.specs.Told.{Look, Rose, WhereTold, SameBut, PutsAt}
 use Rattle.command_words.specs.Table.{parts_of}
 use Rattle.command_words.specs.declared.table.Command.TheVariants as command
-use Rattle.report_text.specs.Report.{change_report, types_report, write_fault}
+use Rattle.report_text.specs.Report.{types_report, write_fault}
 use Rattle.command_words.specs.declared.request.Request as words_of
 use Rattle.command_words.specs.Asked as asked_words
 use Rattle.command_words.specs.declared.table.Command.{Command}
@@ -25,12 +25,13 @@ use Rattle.source_files.specs.Trees.{AreTrees, Lexical, Tokens, LeftOut, NoTree}
 use Rattle.source_files.specs.Answers as files
 use Rattle.refactor_app.specs.declared.status.Status.{Status}
 use Rattle.refactor_app.specs.declared.status.Status.TheVariants as s
-use Rattle.changed_files.specs.declared.files.NewFiles.{NewFiles}
 use Rattle.refactor_app.specs.declared.decide.Output.{Output}
 use Rattle.refactor_app.specs.declared.decide.Verdict.{Verdict}
 use Rattle.refactor_app.specs.declared.decide.Verdict.TheVariants as verdict
 use Rattle.checker.specs.declared.check.CheckedProgram.{CheckedProgram}
-use Rattle.refactor_app.specs.Words.{Files, Request, inputs, Asks, AsksCheck, AsksRun, AsksSteps, Uses, AskOther}
+use Rattle.refactor_app.specs.Words.{ExtractRequest, Files, Request, inputs, Asks, AsksCheck, AsksExtract, AsksRun, AsksSteps, Uses, AskOther}
+use Rattle.extract_interface.specs.declared.command.Answer.{Answer}
+use Rattle.extract_interface.specs.declared.command.Answer.TheVariants as extract
 use Rattle.class_world.specs.declared.world.World.{World}
 use Rattle.java_core.specs.Plain as plain
 use Rattle.java_core.specs.View.{program_plain}
@@ -48,23 +49,27 @@ use Rattle.refactor_app.specs.declared.asked.Task.{Task}
 use Rattle.refactor_app.specs.declared.asked.Task.TheVariants as task
 use Rattle.refactor_app.specs.declared.check.CheckAnswer.{CheckAnswer}
 use Rattle.refactor_app.specs.declared.check.CheckAnswer.TheVariants as answer
-use Rattle.refactor_app.specs.Asked.{AreRunWords, AsksRunOf, AsksTask, HasRunWords, files_of, request_of, task_files, task_steps}
+use Rattle.refactor_app.specs.Asked.{AreRunWords, AsksRunOf, AsksTask, HasRunWords, extract_of, files_of, request_of, task_files, task_steps}
 use Rattle.refactor_app.specs.Checked.{Answers}
-use Rattle.refactor_app.specs.Changes.{IsAnswered, IsAnsweredBy, Said, Stands, Changed, Listed, out_names, user_edits, user_texts}
-use Rattle.refactor_app.specs.Writes.{Writes, FailsAt}
-use Rattle.refactor_app.specs.Decided.{AreOutputs, Decides, IsVerdict}
-use Rattle.refactor_app.specs.Written.{ChangesSo, EndsVerdict}
+use Rattle.refactor_app.specs.Declarations.{broken_line}
+use Rattle.refactor_app.specs.Changes.{IsAnswered, IsAnsweredBy, Said, Stands, Changed, Listed, change_writing}
+use Rattle.refactor_app.specs.Extractions as extractions
+use Rattle.refactor_app.specs.Extractions.{extract_writing}
+use Rattle.refactor_app.specs.Writes.{Writes, FailsAt, Writing}
+use Rattle.refactor_app.specs.Decided.{AreOutputs, Decides, DecidesExtract, IsExtractVerdict, IsVerdict}
+use Rattle.refactor_app.specs.Written.{ChangesSo, EndsVerdict, ExtractsSo}
 use Rattle.refactor_app.specs.Refusals.{AsksFew, HasChecked, HasDeclared, IsCheckRefusal, Refusal}
 use Rattle.refactor_app.specs.Refusals as refusal
 use Rattle.refactor_app.specs.Checking.{Passes}
 use Rattle.refactor_app.specs.Running.{Runs, run_status}
 use Rattle.refactor_app.specs.Ran.{EndsRun, IsRunAnswer, RunsSo}
-use Rattle.refactor_app.specs.Answers.{AreTypes, Ends, IsChange}
-use Rattle.refactor_app.specs.Course.{Moment, EndsAt, EndsWith, Finishes, Course, IsAsked}
+use Rattle.refactor_app.specs.Answers.{AreTypes, Ends, IsAsked, IsChange, IsExtraction}
+use Rattle.refactor_app.specs.Answers as answers
+use Rattle.refactor_app.specs.Course.{Moment, EndsAt, EndsWith, Finishes, Course}
 use Rattle.refactor_app.specs.Course as way
 use Rattle.refactor_app.specs.Stops.{Stops, TellsStop, IsNamed}
 use Rattle.refactor_app.proofs.Asking.{one_steps}
-use Rattle.refactor_app.proofs.OneSense.{change_or_run, check_or_run}
+use Rattle.refactor_app.proofs.OneSense.{change_or_run, check_or_run, run_or_extraction}
 
 -- ---- what is held
 
@@ -82,10 +87,18 @@ module _ (words : List (List ℕ)) (fs : Files) (texts names : List (List ℕ)) 
   typed_told : (core : plain.Program) (operations : List Operation) → IsWellTyped h.declared.program w core operations → IsWellTyped h.declared.program h.declared.world core operations
   typed_told core operations well = subst (λ (w : World). IsWellTyped h.declared.program w core operations) (sym world) well
 
+  abbrev checked_told : (c : CheckedProgram) → IsWellTyped h.declared.program w (program_plain c.core) c.operations → HasChecked words a.holds fs texts names units
+  checked_told c well = record { declared = h; core = program_plain c.core; operations = c.operations; typed = typed_told (program_plain c.core) c.operations well }
+
+  -- the line of a rule that a check names is put
+  refused : (line : String Global) (rule : Broken) → IsCheckRefusal h.declared.program w rule → string_bytes line ≡ broken_line fs texts units rule → b.holds ≡ a.holds
+      → EndsAt a b (string_bytes line) s.Refused st → Course words a b st
+  refused line rule broken is same ends =
+      way.Course.refuses (refusal.Refusal.checked fs texts names units rule h (refusal_told rule broken)) same (subst (λ (x : List ℕ). EndsAt a b x s.Refused st) is ends)
+
   -- what becomes of a check of files is what becomes of the call
   pub on_check : (x : CheckAnswer) → AsksCheck words fs → Answers fs texts units h.declared.program w x → b.holds ≡ a.holds → EndsWith a.put b.put a.faults b.faults x st → Course words a b st
-  on_check (answer.Refused line) asks (rule, broken, is) same ends =
-      way.Course.refuses (refusal.Refusal.checked fs texts names units rule h (refusal_told rule broken)) same (subst (λ (x : List ℕ). EndsAt a b x s.Refused st) is ends)
+  on_check (answer.Refused line) asks (rule, broken, is) same ends = refused line rule broken is same ends
   on_check (answer.Passed report checked) asks (well, is) same ends =
       way.Course.checks {line = string_bytes report}
       (record {
@@ -148,9 +161,7 @@ module _ (words : List (List ℕ)) (fs : Files) (texts names : List (List ℕ)) 
     ran core operations (Err e) well is same none = way.Course.no_memory same none.1 none.0
 
     pub on_run : (x : CheckAnswer) → Answers fs texts units h.declared.program w x → b.holds ≡ a.holds → RunsSo w table r a.put b.put a.faults b.faults x st → Course words a b st
-    on_run (answer.Refused line) (rule, broken, is) same ends =
-        way.Course.refuses (refusal.Refusal.checked fs texts names units rule h (refusal_told rule broken)) same
-        (subst (λ (x : List ℕ). EndsAt a b x s.Refused st) is ends)
+    on_run (answer.Refused line) (rule, broken, is) same ends = refused line rule broken is same ends
     on_run (answer.Passed report checked) (well, is) same (x, runs, ends) = ran (program_plain checked.core) checked.operations x well runs same ends
 
 -- ---- a change
@@ -179,15 +190,19 @@ finishes (o ∷ os) (n ∷ ns) (t ∷ ts) old new f f' report ends st (is, more)
 finishes (o ∷ os) (n ∷ ns) (t ∷ ts) old new f f' report ends st (is, more) (inr (others, rose, fault)) =
     inr (n, inl (refl, subst (λ (m : List ℕ). WhereTold old new (SameBut m)) is.named others), rose, subst (λ (x : List ℕ). ends x s.WriteFault st) is.fault fault)
 
+-- what is to be written is written and its report put, or one of its writes fails
+written : (words : List (List ℕ)) (a b : Moment) (st : Status) (x : Writing) (outputs : List Output) (report : List ℕ) → IsAsked words a.holds x → AreOutputs x.names x.texts outputs
+    → report ≡ x.report → Finishes outputs a.holds b.holds a.write_faults b.write_faults report (Ends a.put b.put a.faults b.faults) st → Course words a b st
+written words a b st x outputs report asked are told ends =
+    elim (finishes outputs x.names x.texts a.holds b.holds a.write_faults b.write_faults report (Ends a.put b.put a.faults b.faults) st are ends) [
+      | inl (writes, done) ↦ way.Course.writes asked writes (subst (λ (l : List ℕ). EndsAt a b l s.Done st) told done)
+      | inr (name, fails, rose, fault) ↦ way.Course.fails name asked fails rose fault
+    ]
+
 module _ (words : List (List ℕ)) (q : Request) (texts names : List (List ℕ)) (units : List SourceUnit) (a b : Moment) (st : Status) (w : World)
     (h : HasDeclared words a.holds q.files texts names units) (world : h.declared.world ≡ w) (asks : Asks words q) (table : List (List ℕ)) (words_are : table ≡ with_words names) where
-  abbrev checked_told : (c : CheckedProgram) → IsWellTyped h.declared.program w (program_plain c.core) c.operations → HasChecked words a.holds q.files texts names units
-  checked_told c well = record {
-    declared = h;
-    core = program_plain c.core;
-    operations = c.operations;
-    typed = typed_told words q.files texts names units a b st w h world (program_plain c.core) c.operations well;
-  }
+  abbrev checked_of : (c : CheckedProgram) → IsWellTyped h.declared.program w (program_plain c.core) c.operations → HasChecked words a.holds q.files texts names units
+  checked_of c well = checked_told words q.files texts names units a b st w h world c well
 
   answered : (c : CheckedProgram) (x : Said) → IsAnsweredBy q texts table units h.declared.program w (program_plain c.core) c.operations x
       → IsAnswered q texts names units h.declared.program h.declared.world (program_plain c.core) c.operations x
@@ -200,7 +215,7 @@ module _ (words : List (List ℕ)) (q : Request) (texts names : List (List ℕ))
       → IsAnsweredBy q texts table units h.declared.program w (program_plain c.core) c.operations x → IsVerdict q texts units x v
       → EndsVerdict a.holds b.holds a.write_faults b.write_faults a.put b.put a.faults b.faults (Ok v) st → Course words a b st
   on_answer c (Stands x) (verdict.Refused line) well is line_is (same, ends) =
-      way.Course.refuses (refusal.Refusal.against q texts names units x (record { asks = asks; checked = checked_told c well; against = answered c (Stands x) is })) same
+      way.Course.refuses (refusal.Refusal.against q texts names units x (record { asks = asks; checked = checked_of c well; against = answered c (Stands x) is })) same
       (subst (λ (l : List ℕ). EndsAt a b l s.Refused st) line_is ends)
   on_answer c (Stands x) (verdict.Changed outputs report) well is none ends = absurd none
   on_answer c (Stands x) (verdict.Listed report) well is none ends = absurd none
@@ -209,14 +224,11 @@ module _ (words : List (List ℕ)) (q : Request) (texts names : List (List ℕ))
   on_answer c (Listed types) (verdict.Refused line) well is none ends = absurd none
   on_answer c (Listed types) (verdict.Changed outputs report) well is none ends = absurd none
   on_answer c (Listed types) (verdict.Listed report) well is told (same, ends) =
-      let are : AreTypes words a.holds q types = record { texts = texts; names = names; units = units; asks = asks; checked = checked_told c well; says = answered c (Listed types) is } in
+      let are : AreTypes words a.holds q types = record { texts = texts; names = names; units = units; asks = asks; checked = checked_of c well; says = answered c (Listed types) is } in
       way.Course.lists are same (subst (λ (l : List ℕ). EndsAt a b l s.Done st) told ends)
   on_answer c (Changed new) (verdict.Changed outputs report) well is (are, told) ends =
-      let change : IsAsked words a q new = record { texts = texts; names = names; units = units; asks = asks; checked = checked_told c well; says = answered c (Changed new) is } in
-      elim (finishes outputs (out_names q) (user_texts q new) a.holds b.holds a.write_faults b.write_faults report.items (Ends a.put b.put a.faults b.faults) st are ends) [
-        | inl (writes, done) ↦ way.Course.writes change writes (subst (λ (l : List ℕ). EndsAt a b l s.Done st) told done)
-        | inr (name, fails, rose, fault) ↦ way.Course.fails name change fails rose fault
-      ]
+      let change : IsChange words a.holds q new = record { texts = texts; names = names; units = units; asks = asks; checked = checked_of c well; says = answered c (Changed new) is } in
+      written words a b st (change_writing q new) outputs report.items (answers.IsAsked.change q new change) are told ends
 
   on_verdict : (c : CheckedProgram) (x : Result Verdict NoMemory) → IsWellTyped h.declared.program w (program_plain c.core) c.operations
       → IfOk x (Decides q texts table units h.declared.program w c) → EndsVerdict a.holds b.holds a.write_faults b.write_faults a.put b.put a.faults b.faults x st → Course words a b st
@@ -226,10 +238,49 @@ module _ (words : List (List ℕ)) (q : Request) (texts names : List (List ℕ))
   -- what becomes of a change of files is what becomes of the call
   pub on_changed : (x : CheckAnswer) → Answers q.files texts units h.declared.program w x
       → ChangesSo a.holds b.holds a.write_faults b.write_faults a.put b.put a.faults b.faults q texts table units h.declared.program w x st → Course words a b st
-  on_changed (answer.Refused line) (rule, broken, is) (same, ends) =
-      way.Course.refuses (refusal.Refusal.checked q.files texts names units rule h (refusal_told words q.files texts names units a b st w h world rule broken)) same
-      (subst (λ (x : List ℕ). EndsAt a b x s.Refused st) is ends)
+  on_changed (answer.Refused line) (rule, broken, is) (same, ends) = refused words q.files texts names units a b st w h world line rule broken is same ends
   on_changed (answer.Passed report checked) (well, is) (v, told, ends) = on_verdict checked v well told ends
+
+-- ---- an extraction
+
+module _ (words : List (List ℕ)) (q : ExtractRequest) (texts names : List (List ℕ)) (units : List SourceUnit) (a b : Moment) (st : Status) (w : World)
+    (h : HasDeclared words a.holds q.files texts names units) (world : h.declared.world ≡ w) (asks : AsksExtract words q) (table : List (List ℕ)) (words_are : table ≡ with_words names) where
+  abbrev extract_checked : (c : CheckedProgram) → IsWellTyped h.declared.program w (program_plain c.core) c.operations → HasChecked words a.holds q.files texts names units
+  extract_checked c well = checked_told words q.files texts names units a b st w h world c well
+
+  extract_answered : (c : CheckedProgram) (x : Answer) → extractions.IsAnsweredBy q texts table units w (program_plain c.core) c.operations x
+      → extractions.IsAnswered q texts names units h.declared.world (program_plain c.core) c.operations x
+  extract_answered c x is =
+      subst (λ (w : World). extractions.IsAnsweredBy q texts (with_words names) units w (program_plain c.core) c.operations x) (sym world)
+      (subst (λ (ns : List (List ℕ)). extractions.IsAnsweredBy q texts ns units w (program_plain c.core) c.operations x) words_are is)
+
+  -- what is said is put
+  on_extract_answer : (c : CheckedProgram) (x : Answer) (v : Verdict) → IsWellTyped h.declared.program w (program_plain c.core) c.operations
+      → extractions.IsAnsweredBy q texts table units w (program_plain c.core) c.operations x → IsExtractVerdict q texts units x v
+      → EndsVerdict a.holds b.holds a.write_faults b.write_faults a.put b.put a.faults b.faults (Ok v) st → Course words a b st
+  on_extract_answer c (extract.Against x) (verdict.Refused line) well is line_is (same, ends) =
+      way.Course.refuses
+      (refusal.Refusal.extract_against q texts names units x (record { asks = asks; checked = extract_checked c well; against = extract_answered c (extract.Against x) is })) same
+      (subst (λ (l : List ℕ). EndsAt a b l s.Refused st) line_is ends)
+  on_extract_answer c (extract.Against x) (verdict.Changed outputs report) well is none ends = absurd none
+  on_extract_answer c (extract.Against x) (verdict.Listed report) well is none ends = absurd none
+  on_extract_answer c (extract.Extracted made) (verdict.Refused line) well is none ends = absurd none
+  on_extract_answer c (extract.Extracted made) (verdict.Listed report) well is none ends = absurd none
+  on_extract_answer c (extract.Extracted made) (verdict.Changed outputs report) well is (are, told) ends =
+      let drawn : IsExtraction words a.holds q made =
+      record { texts = texts; names = names; units = units; asks = asks; checked = extract_checked c well; says = extract_answered c (extract.Extracted made) is } in
+      written words a b st (extract_writing q texts units made) outputs report.items (answers.IsAsked.extraction q made drawn) are told ends
+
+  on_extract_verdict : (c : CheckedProgram) (x : Result Verdict NoMemory) → IsWellTyped h.declared.program w (program_plain c.core) c.operations
+      → IfOk x (DecidesExtract q texts table units w c) → EndsVerdict a.holds b.holds a.write_faults b.write_faults a.put b.put a.faults b.faults x st → Course words a b st
+  on_extract_verdict c (Ok v) well (x, is, told) ends = on_extract_answer c x v well is told ends
+  on_extract_verdict c (Err e) well told (none, same, put) = way.Course.no_memory same put none
+
+  -- what becomes of an extraction from files is what becomes of the call
+  pub on_extracted : (x : CheckAnswer) → Answers q.files texts units h.declared.program w x
+      → ExtractsSo a.holds b.holds a.write_faults b.write_faults a.put b.put a.faults b.faults q texts table units w x st → Course words a b st
+  on_extracted (answer.Refused line) (rule, broken, is) (same, ends) = refused words q.files texts names units a b st w h world line rule broken is same ends
+  on_extracted (answer.Passed report checked) (well, is) (v, told, ends) = on_extract_verdict checked v well told ends
 
 -- ---- a task
 
@@ -244,18 +295,21 @@ users_within look fs texts units names held trees =
 
 pub uses_of : (words : List (List ℕ)) (t : Task) → AsksTask words t → Uses words (task_files t)
 uses_of words (task.Place q) asks = inl (request_of q, asks, refl)
+uses_of words (task.Extract q) asks = inr (inr (inr (extract_of q, asks, refl)))
 uses_of words (task.Check i) asks = inr (inl asks)
-uses_of words (task.Run r) asks = inr (inr (r.steps, record { class = r.class.now; args = map string_bytes r.args.now; asks = asks }))
+uses_of words (task.Run r) asks = inr (inr (inl (r.steps, record { class = r.class.now; args = map string_bytes r.args.now; asks = asks })))
 
 -- only a run takes steps
 pub steps_of : (words : List (List ℕ)) (t : Task) (n : ℕ) → AsksTask words t → AsksSteps words (task_files t) n → n ≡ task_steps t
 steps_of words (task.Place q) n asks run = absurd (change_or_run words (request_of q) n (task_files (task.Place q)) asks run)
+steps_of words (task.Extract q) n asks run = absurd (run_or_extraction words n (task_files (task.Extract q)) (extract_of q) run asks)
 steps_of words (task.Check i) n asks run = absurd (check_or_run words (files_of i) n (files_of i) asks run)
 steps_of words (task.Run r) n asks run = one_steps words n r.steps (files_of r.inputs) (files_of r.inputs) run (record { class = r.class.now; args = map string_bytes r.args.now; asks = asks })
 
 -- and where there are steps, it is a run
 pub run_of : (words : List (List ℕ)) (t : Task) → AsksTask words t → 0 < task_steps t → AsksSteps words (task_files t) (task_steps t)
 run_of words (task.Place q) asks some = absurd (omega (arith, some))
+run_of words (task.Extract q) asks some = absurd (omega (arith, some))
 run_of words (task.Check i) asks some = absurd (omega (arith, some))
 run_of words (task.Run r) asks some = record { class = r.class.now; args = map string_bytes r.args.now; asks = asks }
 
@@ -301,8 +355,9 @@ run_words r is shape numbers =
     has_words (map string_bytes r.own.now) (subst (λ (c : Command). HasShape c (asked_words.parts r)) is shape).0.0 (subst (λ (c : Command). HasNumbers c (asked_words.parts r)) is numbers)
 
 -- the words ask for another command
-pub asks_other : (words : List (List ℕ)) (r : words_of.Request) → asked_words.Asks words r → r.command ≢ command.Generalize → r.command ≢ command.Allowed → r.command ≢ command.Check → r.command ≢ command.Run → AskOther words
-asks_other words r asks no_change no_types no_check no_run = record {
+pub asks_other : (words : List (List ℕ)) (r : words_of.Request) → asked_words.Asks words r → r.command ≢ command.Generalize → r.command ≢ command.Allowed → r.command ≢ command.Check → r.command ≢ command.Run
+    → r.command ≢ command.ExtractInterface → AskOther words
+asks_other words r asks no_change no_types no_check no_run no_extraction = record {
   command = r.command;
   rest = asks.rest;
   are = asks.are;
@@ -310,6 +365,7 @@ asks_other words r asks no_change no_types no_check no_run = record {
   no_types = no_types;
   no_check = no_check;
   no_run = no_run;
+  no_extraction = no_extraction;
   meets = λ n. subst (λ (p : Parts). Meets r.command p n) (sym asks.parts_are) (asks.meets n);
 }
 
@@ -378,9 +434,6 @@ pub record IsAfter (a m : Moment) : Type 0 where
   pub faults : m.faults ≡ a.faults
 
 module _ (words : List (List ℕ)) (a m b : Moment) (st : Status) (after : IsAfter a m) where
-  asked_from : (q : Request) (made : NewFiles) → IsAsked words m q made → IsAsked words a q made
-  asked_from q made h = subst (λ (look : Option Look). IsChange words look q made) after.holds h
-
   pub from_before : Course words m b st → Course words a b st
   from_before (way.Course.usages low same ends) = way.Course.usages low (same ∙ after.holds) (ends_from a m b _ _ st after.put after.faults ends)
   from_before (way.Course.absent {fs = fs} k name asks named absent rose same ends) =
@@ -398,11 +451,12 @@ module _ (words : List (List ℕ)) (a m b : Moment) (st : Status) (after : IsAft
   from_before (way.Course.lists {q = q} {types = types} p same ends) =
       way.Course.lists (subst (λ (look : Option Look). AreTypes words look q types) after.holds p) (same ∙ after.holds)
       (ends_from a m b (types_report types) s.Done st after.put after.faults ends)
-  from_before (way.Course.writes {q = q} {made = made} c told ends) =
-      way.Course.writes (asked_from q made c) (subst (λ (h : Option Look). Writes (out_names q) (user_texts q made) h b.holds) after.holds told)
-      (ends_from a m b (change_report q.files.users (user_edits q made)) s.Done st after.put after.faults ends)
-  from_before (way.Course.fails {q = q} {made = made} name c told rose ends) =
-      way.Course.fails name (asked_from q made c) (subst (λ (h : Option Look). FailsAt (out_names q) (user_texts q made) name h b.holds) after.holds told)
+  from_before (way.Course.writes {x = x} asked told ends) =
+      way.Course.writes (subst (λ (look : Option Look). IsAsked words look x) after.holds asked) (subst (λ (h : Option Look). Writes x.names x.texts h b.holds) after.holds told)
+      (ends_from a m b x.report s.Done st after.put after.faults ends)
+  from_before (way.Course.fails {x = x} name asked told rose ends) =
+      way.Course.fails name (subst (λ (look : Option Look). IsAsked words look x) after.holds asked)
+      (subst (λ (h : Option Look). FailsAt x.names x.texts name h b.holds) after.holds told)
       (rose_later a.write_faults m.write_faults b.write_faults after.write_faults rose) (ends_from a m b (write_fault name) s.WriteFault st after.put after.faults ends)
   from_before (way.Course.no_memory same put is) = way.Course.no_memory (same ∙ after.holds) (put ∙ after.put) is
 

@@ -16,7 +16,7 @@ use Rattle.checked_files.specs.Declarations.{AreDeclared, IsBroken}
 use Rattle.refactor_app.specs.Declarations.{broken_line}
 use Rattle.refactor_app.specs.Refusals.{most_files, most_steps, AsksFew, HasRead, HasParsed, IsAt, Tells, Refusal}
 use Rattle.refactor_app.specs.Refusals as refusal
-use Rattle.refactor_app.specs.Outcomes.{Outcome, Misused, Absent, Refused, Changed, Listed, Judged, Ended, ComesTo, IsTreeless, AreTreeless, IsOfTypes}
+use Rattle.refactor_app.specs.Outcomes.{Outcome, Misused, Absent, Refused, Changed, Listed, Drawn, Judged, Ended, ComesTo, IsTreeless, AreTreeless, IsOfTypes}
 use Rattle.refactor_app.proofs.Asking.{one_files}
 use Rattle.refactor_app.proofs.OneSense.{lowest_or_asks, lowest_or_other, other_or_asks, one_lowest}
 use Rattle.refactor_app.proofs.OneReading.{one_held, held_or_stops, one_stop}
@@ -75,7 +75,7 @@ on_parsed words look fs texts names units o h sound = asks fs h.read.asks.uses (
 by_refusal : (words : List (List ℕ)) (look : Look) (line : List ℕ) → Refusal words (Some look) line → Sense words look (Refused line)
 by_refusal words look line (refusal.Refusal.n1 h) = other h refl
 by_refusal words look line (refusal.Refusal.l1 fs h many) = asks fs h (inl (many, refl))
-by_refusal words look line (refusal.Refusal.l9 fs n run few long) = asks fs (inr (inr (n, run))) (inr (inl ((n, run, few, long), refl)))
+by_refusal words look line (refusal.Refusal.l9 fs n run few long) = asks fs (inr (inr (inl (n, run)))) (inr (inl ((n, run, few, long), refl)))
 by_refusal words look line (refusal.Refusal.l2 fs k few stops) = asks fs few.uses (inr (inr (few, inl (k, TooLarge, stops, refl))))
 by_refusal words look line (refusal.Refusal.l3 fs k few stops) = asks fs few.uses (inr (inr (few, inl (k, TooMuch, stops, refl))))
 by_refusal words look line (refusal.Refusal.broken fs texts k f read breaks tells) = asks fs read.asks.uses (inr (inr (read.asks, inr (texts, read.held, inl (k, f, line, breaks, tells, refl)))))
@@ -84,10 +84,13 @@ by_refusal words look line (refusal.Refusal.checked fs texts names units rule h 
     on_parsed words look fs texts names units _ h.parsed
     (inr (h.declared, inl (record { fs = fs; texts = texts; names = names; units = units; rule = rule; declared = h; broken = broken; is = refl })))
 by_refusal words look line (refusal.Refusal.s24 h) =
-    on_parsed words look h.fs h.texts h.names h.units _ h.checked.declared.parsed (inr (h.checked.declared.declared, inr (inr (h, refl))))
+    on_parsed words look h.fs h.texts h.names h.units _ h.checked.declared.parsed (inr (h.checked.declared.declared, inr (inr (inl (h, refl)))))
 by_refusal words look line (refusal.Refusal.against q texts names units a h) =
     on_parsed words look q.files texts names units _ h.checked.declared.parsed
     (inr (h.checked.declared.declared, inr (inl (record { q = q; texts = texts; names = names; units = units; against = a; stands = h; is = refl }))))
+by_refusal words look line (refusal.Refusal.extract_against q texts names units a h) =
+    on_parsed words look q.files texts names units _ h.checked.declared.parsed
+    (inr (h.checked.declared.declared, inr (inr (inr (record { q = q; texts = texts; names = names; units = units; against = a; stands = h; is = refl })))))
 
 sense : (words : List (List ℕ)) (look : Look) (o : Outcome) → ComesTo words (Some look) o → Sense words look o
 sense words look (Misused rule) h = misuse rule h refl
@@ -95,6 +98,7 @@ sense words look (Absent name) h = asks h.fs h.asks.uses (inr (inr (h.asks, inl 
 sense words look (Refused line) h = by_refusal words look line h
 sense words look (Changed q made) h = on_parsed words look q.files h.texts h.names h.units (Changed q made) h.checked.declared.parsed (inr (h.checked.declared.declared, h))
 sense words look (Listed q types) h = on_parsed words look q.files h.texts h.names h.units (Listed q types) h.checked.declared.parsed (inr (h.checked.declared.declared, h))
+sense words look (Drawn q made) h = on_parsed words look q.files h.texts h.names h.units (Drawn q made) h.checked.declared.parsed (inr (h.checked.declared.declared, h))
 sense words look (Judged report) h = on_parsed words look h.fs h.texts h.names h.units (Judged report) h.declared.parsed (inr (h.declared.declared, h))
 sense words look (Ended report how) h = on_parsed words look h.fs h.texts h.names h.units (Ended report how) h.declared.parsed (inr (h.declared.declared, h))
 

@@ -6,7 +6,7 @@ use Rattle.command_words.specs.declared.table.Command.{Command}
 use Rattle.command_words.specs.declared.table.Command.TheVariants as c
 use Rattle.command_words.specs.Table.{word_of, parts_of}
 use Rattle.command_words.specs.Rules.{Meets, IsLowest}
-use Rattle.refactor_app.specs.Words.{Aim, Become, Types, aim_command, Files, Request, Asks, AsksCheck, AsksSteps, Uses, AskOther}
+use Rattle.refactor_app.specs.Words.{Aim, Become, Types, aim_command, ExtractRequest, Files, Request, Asks, AsksCheck, AsksExtract, AsksSteps, Uses, AskOther}
 
 -- the command whose word begins with this byte
 abbrev command_at : ℕ → Command
@@ -58,7 +58,8 @@ record Meet (words : List (List ℕ)) : Type 0 where
 asked : (words : List (List ℕ)) (fs : Files) → Uses words fs → Meet words
 asked words fs (inl (q, h, is)) = record { command = aim_command q.aim; rest = h.rest; are = h.are; meets = h.meets }
 asked words fs (inr (inl h)) = record { command = c.Check; rest = h.rest; are = h.are; meets = h.meets }
-asked words fs (inr (inr (n, h))) = record { command = c.Run; rest = h.asks.rest; are = h.asks.are; meets = h.asks.meets }
+asked words fs (inr (inr (inl (n, h)))) = record { command = c.Run; rest = h.asks.rest; are = h.asks.are; meets = h.asks.meets }
+asked words fs (inr (inr (inr (q, h, is)))) = record { command = c.ExtractInterface; rest = h.rest; are = h.are; meets = h.meets }
 
 asked_other : (words : List (List ℕ)) → AskOther words → Meet words
 asked_other words h = record { command = h.command; rest = h.rest; are = h.are; meets = h.meets }
@@ -80,7 +81,8 @@ other_aim words other Types e = other.no_types e
 pub other_or_asks : (words : List (List ℕ)) (fs : Files) → AskOther words → Uses words fs → ⊥
 other_or_asks words fs other (inl (q, h, is)) = other_aim words other q.aim (one_split other.command (aim_command q.aim) other.rest h.rest (sym other.are ∙ h.are)).0
 other_or_asks words fs other (inr (inl h)) = other.no_check (one_split other.command c.Check other.rest h.rest (sym other.are ∙ h.are)).0
-other_or_asks words fs other (inr (inr (n, h))) = other.no_run (one_split other.command c.Run other.rest h.asks.rest (sym other.are ∙ h.asks.are)).0
+other_or_asks words fs other (inr (inr (inl (n, h)))) = other.no_run (one_split other.command c.Run other.rest h.asks.rest (sym other.are ∙ h.asks.are)).0
+other_or_asks words fs other (inr (inr (inr (q, h, is)))) = other.no_extraction (one_split other.command c.ExtractInterface other.rest h.rest (sym other.are ∙ h.are)).0
 
 not_check : (a : Aim) → aim_command a ≡ c.Check → ⊥
 not_check (Become out ty) e = absurd (cc)
@@ -90,6 +92,10 @@ not_run : (a : Aim) → aim_command a ≡ c.Run → ⊥
 not_run (Become out ty) e = absurd (cc)
 not_run Types e = absurd (cc)
 
+not_extraction : (a : Aim) → aim_command a ≡ c.ExtractInterface → ⊥
+not_extraction (Become out ty) e = absurd (cc)
+not_extraction Types e = absurd (cc)
+
 pub change_or_check : (words : List (List ℕ)) (q : Request) (fs : Files) → Asks words q → AsksCheck words fs → ⊥
 change_or_check words q fs g h = not_check q.aim (one_split (aim_command q.aim) c.Check g.rest h.rest (sym g.are ∙ h.are)).0
 
@@ -98,6 +104,15 @@ change_or_run words q n fs g h = not_run q.aim (one_split (aim_command q.aim) c.
 
 pub check_or_run : (words : List (List ℕ)) (fs : Files) (n : ℕ) (gs : Files) → AsksCheck words fs → AsksSteps words gs n → ⊥
 check_or_run words fs n gs g h = let same = (one_split c.Check c.Run g.rest h.asks.rest (sym g.are ∙ h.asks.are)).0 in absurd (cc)
+
+pub change_or_extraction : (words : List (List ℕ)) (q : Request) (x : ExtractRequest) → Asks words q → AsksExtract words x → ⊥
+change_or_extraction words q x g h = not_extraction q.aim (one_split (aim_command q.aim) c.ExtractInterface g.rest h.rest (sym g.are ∙ h.are)).0
+
+pub check_or_extraction : (words : List (List ℕ)) (fs : Files) (x : ExtractRequest) → AsksCheck words fs → AsksExtract words x → ⊥
+check_or_extraction words fs x g h = let same = (one_split c.Check c.ExtractInterface g.rest h.rest (sym g.are ∙ h.are)).0 in absurd (cc)
+
+pub run_or_extraction : (words : List (List ℕ)) (n : ℕ) (fs : Files) (x : ExtractRequest) → AsksSteps words fs n → AsksExtract words x → ⊥
+run_or_extraction words n fs x g h = let same = (one_split c.Run c.ExtractInterface g.asks.rest h.rest (sym g.asks.are ∙ h.are)).0 in absurd (cc)
 
 pub one_lowest : (words : List (List ℕ)) (m n : ℕ) → IsLowest words m → IsLowest words n → m ≡ n
 one_lowest words m n (inl (is, none)) (inl (so, none')) = is ∙ sym so

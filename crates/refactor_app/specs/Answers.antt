@@ -6,13 +6,18 @@ use Rattle.command_words.specs.Rules.{IsLowest}
 use Rattle.changed_files.specs.declared.files.NewFiles.{NewFiles}
 use Rattle.core_meaning.specs.declared.values.End.{End}
 use Rattle.core_meaning.specs.declared.values.End.TheVariants as end
+use Rattle.extract_interface.specs.declared.command.Answer.{Answer}
+use Rattle.extract_interface.specs.declared.command.Answer.TheVariants as extract
+use Rattle.extract_interface.specs.declared.command.Extracted.{Extracted}
 use Rattle.source_files.specs.Held.{StopsAt, Missing, Failed}
 use Rattle.refactor_app.specs.declared.status.Status.{Status}
 use Rattle.refactor_app.specs.declared.status.Status.TheVariants as s
-use Rattle.refactor_app.specs.Words.{Files, Request, inputs, Asks}
+use Rattle.refactor_app.specs.Words.{ExtractRequest, Files, Request, inputs, Asks, AsksExtract}
 use Rattle.report_text.specs.Report.{usage, change_report, types_report, missing, read_fault, write_fault}
-use Rattle.refactor_app.specs.Changes.{IsAnswered, Said, Changed, Listed, out_names, user_edits, user_texts}
-use Rattle.refactor_app.specs.Writes.{Writes, FailsAt}
+use Rattle.refactor_app.specs.Changes.{IsAnswered, Said, Changed, Listed, change_writing, out_names, user_edits, user_texts}
+use Rattle.refactor_app.specs.Extractions as extractions
+use Rattle.refactor_app.specs.Extractions.{extract_writing}
+use Rattle.refactor_app.specs.Writes.{Writes, FailsAt, Writing}
 use Rattle.refactor_app.specs.Refusals.{AsksFew, HasChecked, Refusal}
 use Rattle.refactor_app.specs.Checking.{Passes}
 use Rattle.refactor_app.specs.Running.{Runs}
@@ -31,6 +36,23 @@ IsChange words old q new = IsSaid words old q (Changed new)
 
 abbrev pub AreTypes : List (List ℕ) → Option Look → Request → (types : List (List ℕ)) → Type 0
 AreTypes words old q types = IsSaid words old q (Listed types)
+
+-- what is said of an extraction from files that break no rule, for which the words ask
+pub record IsExtractSaid (words : List (List ℕ)) (old : Option Look) (q : ExtractRequest) (said : Answer) : Type 0 where
+  pub texts : List (List ℕ)
+  pub names : List (List ℕ)
+  pub units : List SourceUnit
+  pub asks : AsksExtract words q
+  pub checked : HasChecked words old q.files texts names units
+  pub says : extractions.IsAnswered q texts names units checked.declared.declared.world checked.core checked.operations said
+
+abbrev pub IsExtraction : List (List ℕ) → Option Look → ExtractRequest → Extracted → Type 0
+IsExtraction words old q made = IsExtractSaid words old q (extract.Extracted made)
+
+-- what the words ask to be written: a change or an extraction
+pub data IsAsked (words : List (List ℕ)) (old : Option Look) : Writing → Type 0 where
+  change : (q : Request) (made : NewFiles) → IsChange words old q made → IsAsked words old (change_writing q made)
+  extraction : (q : ExtractRequest) (made : Extracted) → (h : IsExtraction words old q made) → IsAsked words old (extract_writing q h.texts h.units made)
 
 -- the contents before and after, and what was put before and after
 module _ (words : List (List ℕ)) (old new : Option Look) (before after : Option (List ℕ)) where
@@ -55,6 +77,14 @@ module _ (words : List (List ℕ)) (old new : Option Look) (before after : Optio
     pub change : IsChange words old q made
     pub written : Writes (out_names q) (user_texts q made) old new
     pub report : Puts (change_report q.files.users (user_edits q made))
+
+  -- Done: each of the user's files is written with its edits, the new interface is written too, and the report tells these and the places that are kept.
+  pub record IsExtractDone : Type 0 where
+    pub q : ExtractRequest
+    pub made : Extracted
+    pub extraction : IsExtraction words old q made
+    pub written : Writes (extractions.out_names q made) (extractions.out_texts q made) old new
+    pub report : Puts (extractions.report_of q extraction.texts extraction.units made)
 
   -- Done: the files that are checked break no rule.
   pub record IsCheckDone : Type 0 where
@@ -83,7 +113,7 @@ module _ (words : List (List ℕ)) (old new : Option Look) (before after : Optio
     pub nothing : NothingWritten
 
   abbrev pub IsDone : Type 0
-  IsDone = IsChangeDone ⊎ IsCheckDone ⊎ IsRunDone ⊎ IsTypesDone
+  IsDone = IsChangeDone ⊎ IsCheckDone ⊎ IsRunDone ⊎ IsTypesDone ⊎ IsExtractDone
 
   -- the run ended with a thrown object of this class
   pub record IsThrew : Type 0 where
@@ -123,13 +153,12 @@ module _ (words : List (List ℕ)) (old new : Option Look) (before after : Optio
     pub report : Puts (read_fault name)
     pub nothing : NothingWritten
 
-  -- the write of a new file failed
+  -- the write of a new file failed, of a change or an extraction
   pub record IsWriteFault : Type 0 where
-    pub q : Request
-    pub made : NewFiles
-    pub change : IsChange words old q made
+    pub writing : Writing
+    pub asked : IsAsked words old writing
     pub name : List ℕ
-    pub failed : FailsAt (out_names q) (user_texts q made) name old new
+    pub failed : FailsAt writing.names writing.texts name old new
     pub report : Puts (write_fault name)
 
   -- what would have become of the call, had the put of its report not failed

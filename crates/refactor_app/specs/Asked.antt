@@ -3,13 +3,14 @@ use Rattle.std.specs.Prelude.{◌≡◌, ℕ, List, ◌∷◌, drop, map}
 use Rattle.std.specs.String.{string_bytes}
 use Rattle.command_words.specs.Names.{IsNumber}
 use Rattle.refactor_app.specs.declared.asked.Asked.{Asked}
+use Rattle.refactor_app.specs.declared.asked.AskedExtract.{AskedExtract}
 use Rattle.refactor_app.specs.declared.asked.AskedRun.{AskedRun}
 use Rattle.refactor_app.specs.declared.asked.Inputs.{Inputs}
 use Rattle.refactor_app.specs.declared.asked.Want.{Want}
 use Rattle.refactor_app.specs.declared.asked.Want.TheVariants as want
 use Rattle.refactor_app.specs.declared.asked.Task.{Task}
 use Rattle.refactor_app.specs.declared.asked.Task.TheVariants as task
-use Rattle.refactor_app.specs.Words.{Aim, Become, Types, Files, Request, Asks, AsksCheck, AsksRun}
+use Rattle.refactor_app.specs.Words.{Aim, Become, Types, ExtractRequest, Files, Request, Asks, AsksCheck, AsksExtract, AsksRun}
 
 abbrev pub files_of : Inputs → Files
 files_of i = record { users = map string_bytes i.users.now; libs = map string_bytes i.libs.now }
@@ -27,8 +28,18 @@ request_of a = record {
   files = files_of a.inputs;
 }
 
+abbrev pub extract_of : AskedExtract → ExtractRequest
+extract_of a = record {
+  out = a.out.now;
+  class = a.class.now;
+  name = a.name.now;
+  methods = map string_bytes a.methods.now;
+  files = files_of a.inputs;
+}
+
 abbrev pub task_files : Task → Files
 task_files (task.Place a) = files_of a.inputs
+task_files (task.Extract a) = files_of a.inputs
 task_files (task.Check i) = files_of i
 task_files (task.Run r) = files_of r.inputs
 
@@ -57,5 +68,6 @@ task_steps _ = 0
 
 abbrev pub AsksTask : List (List ℕ) → Task → Type 0
 AsksTask words (task.Place a) = Asks words (request_of a)
+AsksTask words (task.Extract a) = AsksExtract words (extract_of a)
 AsksTask words (task.Check i) = AsksCheck words (files_of i)
 AsksTask words (task.Run r) = AsksRunOf words r

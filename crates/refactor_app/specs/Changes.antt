@@ -26,9 +26,10 @@ use Rattle.generalize_declared.specs.declared.allowed.TypesAnswer.{TypesAnswer}
 use Rattle.generalize_declared.specs.declared.allowed.TypesAnswer.TheVariants as types
 use Rattle.generalize_declared.specs.Allowed as allowed
 use Rattle.generalize_declared.specs.Plans as plans
-use Rattle.report_text.specs.Report.{refused_place}
+use Rattle.report_text.specs.Report.{change_report, refused_place}
 use Rattle.refactor_app.specs.Words.{Aim, Become, Types, Files, Request}
 use Rattle.refactor_app.specs.Declarations.{node_name}
+use Rattle.refactor_app.specs.Writes.{Writing}
 
 -- ---- what is asked
 
@@ -133,3 +134,6 @@ user_texts q new = take (length q.files.users) new.texts
 -- and their edits
 abbrev pub user_edits : Request → NewFiles → List (List Edit)
 user_edits q new = take (length q.files.users) new.edits
+
+abbrev pub change_writing : Request → NewFiles → Writing
+change_writing q new = record { names = out_names q; texts = user_texts q new; report = change_report q.files.users (user_edits q new) }

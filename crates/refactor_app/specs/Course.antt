@@ -4,21 +4,19 @@ use Rattle.std.specs.String.{string_bytes}
 use Rattle.refactor_app.specs.declared.decide.Output.{Output}
 use Rattle.tool_files.specs.Told.{Look, Rose, SameBut, WhereTold, PutsAt}
 use Rattle.command_words.specs.Rules.{IsLowest}
-use Rattle.changed_files.specs.declared.files.NewFiles.{NewFiles}
 use Rattle.core_meaning.specs.declared.values.End.{End}
 use Rattle.source_files.specs.Held.{StopsAt, Missing, Failed}
-use Rattle.report_text.specs.Report.{usage, change_report, types_report, missing, read_fault, write_fault}
+use Rattle.report_text.specs.Report.{usage, types_report, missing, read_fault, write_fault}
 use Rattle.refactor_app.specs.declared.status.Status.{Status}
 use Rattle.refactor_app.specs.declared.status.Status.TheVariants as s
 use Rattle.refactor_app.specs.Words.{Files, Request, inputs}
 use Rattle.refactor_app.specs.declared.check.CheckAnswer.{CheckAnswer}
 use Rattle.refactor_app.specs.declared.check.CheckAnswer.TheVariants as answer
-use Rattle.refactor_app.specs.Changes.{out_names, user_edits, user_texts}
-use Rattle.refactor_app.specs.Writes.{Writes, FailsAt}
+use Rattle.refactor_app.specs.Writes.{Writes, FailsAt, Writing}
 use Rattle.refactor_app.specs.Refusals.{AsksFew, Refusal}
 use Rattle.refactor_app.specs.Checking.{Passes}
 use Rattle.refactor_app.specs.Running.{Runs, run_status}
-use Rattle.refactor_app.specs.Answers.{AreTypes, IsChange, Ends}
+use Rattle.refactor_app.specs.Answers.{AreTypes, IsAsked, Ends}
 
 -- The files before and after, what was put before and after, and each count before and after.
 pub record Moment : Type 0 where
@@ -37,10 +35,6 @@ abbrev pub EndsWith : Option (List ℕ) → Option (List ℕ) → ℕ → ℕ �
 EndsWith before after faults now (answer.Refused line) status = Ends before after faults now (string_bytes line) s.Refused status
 EndsWith before after faults now (answer.Passed report checked) status = Ends before after faults now (string_bytes report) s.Done status
 
--- a change that is asked for of what the files held first
-abbrev pub IsAsked : List (List ℕ) → Moment → Request → NewFiles → Type 0
-IsAsked words a = IsChange words a.holds
-
 pub data Course (words : List (List ℕ)) (a b : Moment) (status : Status) : Type 0 where
   usages : {rule : ℕ} → IsLowest words rule → b.holds ≡ a.holds → EndsAt a b (usage rule) s.Usage status → Course words a b status
   absent : {fs : Files} (k : ℕ) (name : List ℕ) → AsksFew words fs → slice_get (inputs fs) k ≡ Some name → StopsAt a.holds 0 (inputs fs) k Missing → Rose a.misses b.misses
@@ -50,10 +44,9 @@ pub data Course (words : List (List ℕ)) (a b : Moment) (status : Status) : Typ
   refuses : {line : List ℕ} → Refusal words a.holds line → b.holds ≡ a.holds → EndsAt a b line s.Refused status → Course words a b status
   checks : {line : List ℕ} → Passes words a.holds line → b.holds ≡ a.holds → EndsAt a b line s.Done status → Course words a b status
   runs : {line : List ℕ} (how : End) → Runs words a.holds line how → b.holds ≡ a.holds → EndsAt a b line (run_status how) status → Course words a b status
-  writes : {q : Request} {made : NewFiles} → IsAsked words a q made → Writes (out_names q) (user_texts q made) a.holds b.holds
-      → EndsAt a b (change_report q.files.users (user_edits q made)) s.Done status → Course words a b status
+  writes : {x : Writing} → IsAsked words a.holds x → Writes x.names x.texts a.holds b.holds → EndsAt a b x.report s.Done status → Course words a b status
   lists : {q : Request} {types : List (List ℕ)} → AreTypes words a.holds q types → b.holds ≡ a.holds → EndsAt a b (types_report types) s.Done status → Course words a b status
-  fails : {q : Request} {made : NewFiles} (name : List ℕ) → IsAsked words a q made → FailsAt (out_names q) (user_texts q made) name a.holds b.holds
+  fails : {x : Writing} (name : List ℕ) → IsAsked words a.holds x → FailsAt x.names x.texts name a.holds b.holds
       → Rose a.write_faults b.write_faults → EndsAt a b (write_fault name) s.WriteFault status → Course words a b status
   no_memory : b.holds ≡ a.holds → b.put ≡ a.put → status ≡ s.NoMemory → Course words a b status
 

@@ -1,8 +1,9 @@
 pub mod Words
 pub mod Asked
 pub mod Declarations
-pub mod Changes
 pub mod Writes
+pub mod Changes
+pub mod Extractions
 pub mod Decided
 pub mod Refusals
 pub mod Checking

@@ -6,18 +6,21 @@ use Rattle.tool_files.specs.Told.{Look}
 use Rattle.command_words.specs.Rules.{IsLowest}
 use Rattle.changed_files.specs.declared.files.NewFiles.{NewFiles}
 use Rattle.generalize_declared.specs.declared.command.Against.{Against}
+use Rattle.extract_interface.specs.declared.command.Against as extract
+use Rattle.extract_interface.specs.declared.command.Extracted.{Extracted}
 use Rattle.core_meaning.specs.declared.values.End.{End}
 use Rattle.source_files.specs.Held.{StopsAt, Missing}
 use Rattle.source_files.specs.Trees.{BreaksAt, NoTree}
 use Rattle.java_tree.specs.declared.fault.Broken.{Broken}
 use Rattle.report_text.specs.Report.{refused}
-use Rattle.refactor_app.specs.Words.{Files, Request, inputs}
+use Rattle.refactor_app.specs.Words.{ExtractRequest, Files, Request, inputs}
 use Rattle.refactor_app.specs.Changes.{against_line}
+use Rattle.refactor_app.specs.Extractions as extractions
 use Rattle.refactor_app.specs.Declarations.{broken_line}
-use Rattle.refactor_app.specs.Refusals.{AsksFew, HasAgainst, HasNoMain, HasRead, HasDeclared, IsAt, IsCheckRefusal, Refusal}
+use Rattle.refactor_app.specs.Refusals.{AsksFew, HasAgainst, HasExtractAgainst, HasNoMain, HasRead, HasDeclared, IsAt, IsCheckRefusal, Refusal}
 use Rattle.refactor_app.specs.Checking.{Passes}
 use Rattle.refactor_app.specs.Running.{Runs}
-use Rattle.refactor_app.specs.Answers.{AreTypes, IsChange}
+use Rattle.refactor_app.specs.Answers.{AreTypes, IsChange, IsExtraction}
 
 pub data Outcome : Type 0 where
   Misused : (rule : ℕ) → Outcome  -- U1 to U8
@@ -25,6 +28,7 @@ pub data Outcome : Type 0 where
   Refused : (line : List ℕ) → Outcome
   Changed : (q : Request) (made : NewFiles) → Outcome
   Listed : (q : Request) (types : List (List ℕ)) → Outcome
+  Drawn : (q : ExtractRequest) (made : Extracted) → Outcome  -- an extraction
   Judged : (report : List ℕ) → Outcome
   Ended : (report : List ℕ) (how : End) → Outcome
 
@@ -42,6 +46,7 @@ ComesTo words old (Absent name) = IsFirstAbsent words old name
 ComesTo words old (Refused line) = Refusal words old line
 ComesTo words old (Changed q made) = IsChange words old q made
 ComesTo words old (Listed q types) = AreTypes words old q types
+ComesTo words old (Drawn q made) = IsExtraction words old q made
 ComesTo words old (Judged report) = Passes words old report
 ComesTo words old (Ended report how) = Runs words old report how
 
@@ -79,15 +84,28 @@ pub record IsChangeRefusal (words : List (List ℕ)) (old : Option Look) (line :
   pub stands : HasAgainst words old q texts names units against
   pub is : line ≡ against_line q.files texts units against
 
+-- the line names what stands against an extraction from such a program
+pub record IsExtractRefusal (words : List (List ℕ)) (old : Option Look) (line : List ℕ) : Type 0 where
+  pub q : ExtractRequest
+  pub texts : List (List ℕ)
+  pub names : List (List ℕ)
+  pub units : List SourceUnit
+  pub against : extract.Against
+  pub stands : HasExtractAgainst words old q texts names units against
+  pub is : line ≡ extractions.against_line q.files texts units against
+
 -- the line is S24, of a run
 abbrev pub IsMainless : List (List ℕ) → Option Look → (line : List ℕ) → Type 0
 IsMainless words old line = HasNoMain words old × (line ≡ refused (codes "S24"))
 
--- what is said where a check was made: its answer, or behind it what stands against a question, the change, the types, S24 or the report of a run
+-- what is said where a check was made: its answer, or behind it what stands against a question or an extraction, the change, the extraction, the types,
+-- S24 or the report of a run
 abbrev pub IsOfTypes : List (List ℕ) → Option Look → Outcome → Type 0
-IsOfTypes words old (Refused line) = IsTypeRefusal words old line ⊎ IsChangeRefusal words old line ⊎ IsMainless words old line
+IsOfTypes words old (Refused line) =
+    IsTypeRefusal words old line ⊎ IsChangeRefusal words old line ⊎ IsMainless words old line ⊎ IsExtractRefusal words old line
 IsOfTypes words old (Changed q made) = IsChange words old q made
 IsOfTypes words old (Listed q types) = AreTypes words old q types
+IsOfTypes words old (Drawn q made) = IsExtraction words old q made
 IsOfTypes words old (Judged report) = Passes words old report
 IsOfTypes words old (Ended report how) = Runs words old report how
 IsOfTypes words old _ = ⊥

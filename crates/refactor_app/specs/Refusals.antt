@@ -19,8 +19,11 @@ use Rattle.program_runs.specs.declared.answer.RunAnswer.TheVariants.{NoMain}
 use Rattle.program_runs.specs.Told.{IsRun}
 use Rattle.built_in_types.specs.BuiltIns.{with_words}
 use Rattle.generalize_declared.specs.declared.command.Against.{Against}
-use Rattle.refactor_app.specs.Words.{Files, Request, inputs, Asks, AsksRun, AsksSteps, Uses, AskOther}
+use Rattle.extract_interface.specs.declared.command.Against as extract
+use Rattle.extract_interface.specs.declared.command.Answer.TheVariants as answer
+use Rattle.refactor_app.specs.Words.{ExtractRequest, Files, Request, inputs, Asks, AsksExtract, AsksRun, AsksSteps, Uses, AskOther}
 use Rattle.refactor_app.specs.Changes.{IsAnswered, Stands, against_line}
+use Rattle.refactor_app.specs.Extractions as extractions
 use Rattle.checked_files.specs.Declarations.{AreDeclared, IsBroken}
 use Rattle.refactor_app.specs.Declarations.{broken_line}
 
@@ -103,8 +106,15 @@ pub record HasAgainst (words : List (List ℕ)) (look : Option Look) (q : Reques
   pub checked : HasChecked words look q.files texts names units
   pub against : IsAnswered q texts names units checked.declared.declared.program checked.declared.declared.world checked.core checked.operations (Stands a)
 
+-- the words ask for an extraction from such files, and this stands against it
+pub record HasExtractAgainst (words : List (List ℕ)) (look : Option Look) (q : ExtractRequest) (texts names : List (List ℕ)) (units : List SourceUnit)
+    (a : extract.Against) : Type 0 where
+  pub asks : AsksExtract words q
+  pub checked : HasChecked words look q.files texts names units
+  pub against : extractions.IsAnswered q texts names units checked.declared.declared.world checked.core checked.operations (answer.Against a)
+
 -- The rules in their order: N1, L1, L9, the sizes of the files, their texts, the declarations of the program, the rules on types and on flow, and then S24 or what stands
--- against a change.
+-- against a question about a place or against an extraction.
 pub data Refusal (words : List (List ℕ)) (look : Option Look) : List ℕ → Type 0 where
   n1 : AskOther words → Refusal words look (refused (codes "N1"))
   l1 : (fs : Files) → Uses words fs → most_files < length (inputs fs) → Refusal words look (refused (codes "L1"))
@@ -120,3 +130,5 @@ pub data Refusal (words : List (List ℕ)) (look : Option Look) : List ℕ → T
   s24 : HasNoMain words look → Refusal words look (refused (codes "S24"))
   against : (q : Request) (texts names : List (List ℕ)) (units : List SourceUnit) (a : Against) → HasAgainst words look q texts names units a
       → Refusal words look (against_line q.files texts units a)
+  extract_against : (q : ExtractRequest) (texts names : List (List ℕ)) (units : List SourceUnit) (a : extract.Against)
+      → HasExtractAgainst words look q texts names units a → Refusal words look (extractions.against_line q.files texts units a)

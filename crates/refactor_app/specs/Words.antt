@@ -71,15 +71,34 @@ pub record AsksRun (words : List (List ℕ)) (steps : ℕ) (class : List ℕ) (a
   pub libs : (parts_of rest).libs ≡ fs.libs
   pub meets : (n : ℕ) → Meets c.Run (parts_of rest) n
 
+-- an extraction: extract-interface OUT CLASS NEWNAME METHOD .. -- files
+pub record ExtractRequest : Type 0 where
+  pub out : List ℕ
+  pub class : List ℕ
+  pub name : List ℕ
+  pub methods : List (List ℕ)
+  pub files : Files
+
+-- the words break no rule, and ask for it
+pub record AsksExtract (words : List (List ℕ)) (q : ExtractRequest) : Type 0 where
+  pub rest : List (List ℕ)
+  pub are : words ≡ word_of c.ExtractInterface ∷ rest
+  pub own : (parts_of rest).own ≡ q.out ∷ q.class ∷ q.name ∷ q.methods
+  pub users : (parts_of rest).users ≡ q.files.users
+  pub libs : (parts_of rest).libs ≡ q.files.libs
+  pub meets : (n : ℕ) → Meets c.ExtractInterface (parts_of rest) n
+
 -- they ask for a run of so many steps at most
 pub record AsksSteps (words : List (List ℕ)) (fs : Files) (steps : ℕ) : Type 0 where
   pub class : List ℕ
   pub args : List (List ℕ)
   pub asks : AsksRun words steps class args fs
 
--- they ask about a place, or for a check or a run, of these files
+-- they ask about a place, or for a check, a run or an extraction, of these files
 abbrev pub Uses : List (List ℕ) → Files → Type 0
-Uses words fs = ((q : Request) × Asks words q × (q.files ≡ fs)) ⊎ AsksCheck words fs ⊎ ((n : ℕ) × AsksSteps words fs n)
+Uses words fs =
+    ((q : Request) × Asks words q × (q.files ≡ fs)) ⊎ AsksCheck words fs ⊎ ((n : ℕ) × AsksSteps words fs n)
+    ⊎ ((q : ExtractRequest) × AsksExtract words q × (q.files ≡ fs))
 
 -- the words break no rule, and ask for something else
 pub record AskOther (words : List (List ℕ)) : Type 0 where
@@ -90,4 +109,5 @@ pub record AskOther (words : List (List ℕ)) : Type 0 where
   pub no_types : command ≢ c.Allowed
   pub no_check : command ≢ c.Check
   pub no_run : command ≢ c.Run
+  pub no_extraction : command ≢ c.ExtractInterface
   pub meets : (n : ℕ) → Meets command (parts_of rest) n

@@ -2,6 +2,12 @@
 use Rattle.std.specs.Prelude.{◌≡◌, ◌⊎◌, List, [], ◌∷◌, ℕ, Option}
 use Rattle.tool_files.specs.Told.{Look, SameBut, WhereTold, PutsAt}
 
+-- what is written, each name with its text, and the report that is put behind it
+pub record Writing : Type 0 where
+  pub names : List (List ℕ)
+  pub texts : List (List ℕ)
+  pub report : List ℕ
+
 -- each name holds its text, one written behind the other; every name that is none of these is as before
 abbrev pub Writes : (names texts : List (List ℕ)) → (old new : Option Look) → Type 0
 Writes [] ts old new = new ≡ old

@@ -1,11 +1,11 @@
-//! What words ask for: something of a place, a check or a run.
+//! What words ask for: something of a place, an extraction, a check or a run.
 
 ghost use Rattle.std.specs.Prelude.{◌≡◌, ◌≢◌, ℕ, true, false, map, drop, List, ◌++◌, OnOk, IfOk, IfSome, IfNone};
 ghost use Rattle.std.specs.String.{string_bytes};
 ghost use Rattle.command_words.specs.declared.table.Command.TheVariants as commands;
 ghost use Rattle.command_words.specs.Asked as asked_words;
-ghost use Rattle.refactor_app.specs.Words.{Asks, inputs};
-ghost use Rattle.refactor_app.specs.Asked.{AreRunWords, AsksRunOf, AsksTask, HasRunWords, files_of, request_of, task_files, task_steps};
+ghost use Rattle.refactor_app.specs.Words.{Asks, AsksExtract, inputs};
+ghost use Rattle.refactor_app.specs.Asked.{AreRunWords, AsksRunOf, AsksTask, HasRunWords, extract_of, files_of, request_of, task_files, task_steps};
 
 use command_words::{Command, Request, number};
 use java_tree::{Items, NoMemory};
@@ -46,10 +46,21 @@ pub struct AskedRun<'a> {
     pub inputs: Inputs<'a>,
 }
 
+/// `extract-interface OUT CLASS NEWNAME METHOD ..` with its files.
+#[derive(Clone, Copy)]
+pub struct AskedExtract<'a> {
+    pub out: &'a str,
+    pub class: &'a str,
+    pub name: &'a str,
+    pub methods: &'a [String],
+    pub inputs: Inputs<'a>,
+}
+
 /// What is to be done with the files.
 #[derive(Clone, Copy)]
 pub enum Task<'a> {
     Place(Asked<'a>),
+    Extract(AskedExtract<'a>),
     Check(Inputs<'a>),
     Run(AskedRun<'a>),
 }
@@ -60,6 +71,7 @@ impl<'a> Task<'a> {
     {
         match self {
             Task::Place(q) => q.inputs,
+            Task::Extract(q) => q.inputs,
             Task::Check(inputs) => *inputs,
             Task::Run(q) => q.inputs,
         }
@@ -120,6 +132,22 @@ fn types_asked<'a>(request: &Request<'a>) -> Option<Asked<'a>>
     })
 }
 
+// The extraction that a request asks for, where it asks for one.
+fn extract_asked<'a>(request: &Request<'a>) -> Option<AskedExtract<'a>>
+    requires { (ws : List (List ℕ)) × asked_words.Asks ws request.now }
+    ensures some { IfSome result (λ q. (ws : List (List ℕ)) → asked_words.Asks ws request.now → AsksExtract ws (extract_of q)) }
+    ensures none { IfNone result (request.now.command ≢ commands.ExtractInterface) }
+{
+    let named = request.extract()?;
+    Some(AskedExtract {
+        out: named.out,
+        class: named.class,
+        name: named.name,
+        methods: named.methods,
+        inputs: inputs_in(request),
+    })
+}
+
 // The words behind the first.
 fn behind_first(words: &[String]) -> &[String]
     ensures { map string_bytes result.now ≡ drop 1 (map string_bytes words.now) }
@@ -166,7 +194,7 @@ fn is_check(command: Command) -> bool
     matches!(command, Command::Check)
 }
 
-/// What a request asks for, where it is about a place, a check or a run.
+/// What a request asks for, where it is about a place, an extraction, a check or a run.
 pub fn task_of<'a>(request: &Request<'a>) -> Option<Task<'a>>
     requires { (ws : List (List ℕ)) × asked_words.Asks ws request.now }
     ensures some { IfSome result (λ t. (ws : List (List ℕ)) → asked_words.Asks ws request.now → AsksTask ws t) }
@@ -174,6 +202,7 @@ pub fn task_of<'a>(request: &Request<'a>) -> Option<Task<'a>>
     ensures no_types { IfNone result (request.now.command ≢ commands.Allowed) }
     ensures no_check { IfNone result (request.now.command ≢ commands.Check) }
     ensures no_run { IfNone result (request.now.command ≢ commands.Run) }
+    ensures no_extraction { IfNone result (request.now.command ≢ commands.ExtractInterface) }
 {
     if is_check(request.command) {
         return Some(Task::Check(inputs_in(request)));
@@ -183,6 +212,9 @@ pub fn task_of<'a>(request: &Request<'a>) -> Option<Task<'a>>
     }
     if let Some(q) = types_asked(request) {
         return Some(Task::Place(q));
+    }
+    if let Some(q) = extract_asked(request) {
+        return Some(Task::Extract(q));
     }
     match change_asked(request) {
         Some(q) => Some(Task::Place(q)),

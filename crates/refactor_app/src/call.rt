@@ -13,7 +13,7 @@ ghost use Rattle.source_files.specs.Held.{AreHeld, AreSmall};
 ghost use Rattle.source_files.specs.Trees.{AreTrees};
 ghost use Rattle.source_files.specs.Answers.{HasParsed};
 ghost use Rattle.refactor_app.specs.Words.{inputs};
-ghost use Rattle.refactor_app.specs.Asked.{AsksTask, request_of, task_files};
+ghost use Rattle.refactor_app.specs.Asked.{AsksTask, extract_of, request_of, task_files};
 ghost use Rattle.refactor_app.specs.Answers as answers;
 ghost use Rattle.refactor_app.specs.Answers.{IsBound, IsDone, IsRefused, IsThrew, IsUsage, IsWriteFault, IsOutFault, Ends};
 ghost use Rattle.checked_files.specs.Judged.{AreDeclaredAs};
@@ -22,12 +22,13 @@ ghost use Rattle.refactor_app.specs.Ran.{EndsRun, RunsSo};
 ghost use Rattle.refactor_app.specs.Course.{EndsWith};
 ghost use Rattle.refactor_app.specs.Refusals.{AsksFew};
 ghost use Rattle.refactor_app.specs.Course.{Moment, Course, Finishes};
-ghost use Rattle.refactor_app.specs.Written.{ChangesSo, EndsVerdict};
+ghost use Rattle.refactor_app.specs.Written.{ChangesSo, EndsVerdict, ExtractsSo};
 ghost use Rattle.refactor_app.specs.Stops.{IsNamed, Stops};
 
-use crate::asked::{Asked, AskedRun, Task, names_of, task_of};
+use crate::asked::{Asked, AskedExtract, AskedRun, Task, names_of, task_of};
 use crate::check::{CheckAnswer, check};
 use crate::decide::{Output, Verdict, decide};
+use crate::extract::extraction;
 use crate::lines::{broken_line, stop_line};
 use crate::status::{Status, run_status};
 use checked_files::{Declared, judge_declarations};
@@ -158,8 +159,8 @@ fn put_verdict<F: Files, K: Sink>(
     }
 }
 
-// What becomes of a question about a place of files with these texts and trees, whose declarations break no rule and say this, and of which a check answered this. The table has the
-// names that the built-in types need.
+// What becomes of a question about a place of files with these texts and trees, whose declarations break no rule and say this, and of which a check answered this.
+// The table has the names that the built-in types need.
 fn on_place<F: Files, K: Sink>(
     alloc: Global,
     q: &Asked<'_>,
@@ -188,6 +189,40 @@ fn on_place<F: Files, K: Sink>(
         CheckAnswer::Refused(line) => put(out, line.as_bytes(), Status::Refused),
         CheckAnswer::Passed { checked, .. } => {
             let verdict = decide(alloc, q, file_names, texts, units, table, declared, checked);
+            put_verdict(files, out, verdict)
+        }
+    }
+}
+
+// What becomes of an extraction from such files.
+fn on_extract<F: Files, K: Sink>(
+    alloc: Global,
+    q: &AskedExtract<'_>,
+    file_names: &[String],
+    texts: &[Items<u8>],
+    units: &[SourceUnit],
+    table: &Names,
+    declared: &Declared,
+    checked: &CheckAnswer,
+    files: &mut F,
+    out: &mut K,
+) -> Status
+    requires small { AreSmall texts.now }
+    requires names { map string_bytes file_names.now ≡ inputs (extract_of q.now).files }
+    requires units { length units.now ≡ length texts.now }
+    requires users { length q.now.inputs.users.now ≤ length units.now }
+    requires sound { IsSound declared.now.world }
+    requires members { HoldsMembers declared.now.world declared.now.members }
+    requires distinct { AreDistinct table.now }
+    requires program { (p : Program) × AreFilesOf (length q.now.inputs.users.now) table.now (map unit_plain units.now) p }
+    ensures { ExtractsSo (F.holds files.old) (F.holds files.new) (F.write_faults files.old) (F.write_faults files.new)
+        (K.written out.old) (K.written out.new) (K.faults out.old) (K.faults out.new)
+        (extract_of q.now) texts.now table.now (map unit_plain units.now) declared.now.world checked.now result }
+{
+    match checked {
+        CheckAnswer::Refused(line) => put(out, line.as_bytes(), Status::Refused),
+        CheckAnswer::Passed { checked, .. } => {
+            let verdict = extraction(alloc, q, file_names, texts, units, table, declared, checked);
             put_verdict(files, out, verdict)
         }
     }
@@ -233,6 +268,18 @@ fn on_declared<F: Files, K: Sink>(
     };
     match task {
         Task::Place(q) => on_place(
+            alloc,
+            q,
+            file_names,
+            texts,
+            units.as_slice(),
+            table,
+            declared,
+            &checked,
+            files,
+            out,
+        ),
+        Task::Extract(q) => on_extract(
             alloc,
             q,
             file_names,
@@ -380,9 +427,14 @@ fn run<F: Files, K: Sink>(alloc: Global, words: &[String], files: &mut F, out: &
     }
 }
 
-/// Changes a program as the words ask (`generalize OUT FILE LINE COL TYPE -- FILES + LIBRARY FILES`), checks it (`check -- FILES + LIBRARY FILES`), or runs the main
-/// method of a class within so many steps (`run STEPS CLASS = ARGS -- FILES + LIBRARY FILES`), and puts a report. LINE and COL count from 1, columns in bytes. Words
-/// are read for every command; those that are not built yet are refused as N1.
+/// Does with a program what the words ask, and puts a report. The words are one of these commands, each with its files:
+/// - `check -- FILES + LIBRARY FILES` checks it;
+/// - `run STEPS CLASS = ARGS -- FILES + LIBRARY FILES` runs the main method of a class within so many steps;
+/// - `generalize OUT FILE LINE COL TYPE -- FILES + LIBRARY FILES` gives a place another declared type;
+/// - `allowed FILE LINE COL -- FILES + LIBRARY FILES` names the types that a place may have;
+/// - `extract-interface OUT CLASS NEWNAME METHOD .. -- FILES + LIBRARY FILES` makes an interface of some methods of a class, and uses it where it may stand.
+///
+/// LINE and COL count from 1, columns in bytes. Words are read for every command; those that are not built yet are refused as N1.
 ///
 /// Where `files` and `out` tell what they hold, each answer says of it what its clause says. `NoMemory` is free, before the first write or put.
 pub fn refactor<F: Files, K: Sink>(
@@ -393,6 +445,9 @@ pub fn refactor<F: Files, K: Sink>(
 ) -> Status
     // Of a change: each of the user's files is written under OUT with the reported edits and no other name is changed; the old and the new program break no rule, and
     // for all arguments and every bound the new one prints, enters and ends as the old one.
+    // Of an extraction: the new interface is written too, beside the file of its class, and the report also names the places that are kept, and why;
+    // both programs break no rule, and in each run of the old one in which nothing goes wrong the new one prints, enters and ends as it.
+    // Of the types of a place: the program breaks no rule, and the report names those that meet each constraint, and no others; nothing is written.
     // Of a check: the program breaks no rule, and the report names its unchecked operations; nothing is written.
     // Of a run: the program breaks no rule, its main method ended normally, and the report has what it printed; nothing is written.
     ensures done { result ≡ Status.Done → IsDone (map string_bytes words.now) (F.holds files.old) (F.holds files.new) (K.written out.old) (K.written out.new) }

@@ -95,8 +95,13 @@ fn out_name(alloc: Global, out: &str, file: &str) -> Result<String, NoMemory>
     Ok(format!(in alloc; "{out}/{file}")?)
 }
 
-// What is written of a file.
-fn output_of(alloc: Global, out: &str, file: &str, text: &[u8]) -> Result<Output, NoMemory>
+/// What is written of a file.
+pub(crate) fn output_of(
+    alloc: Global,
+    out: &str,
+    file: &str,
+    text: &[u8],
+) -> Result<Output, NoMemory>
     ensures { IfOk result (IsOutput (within out.now file.now) text.now) }
 {
     let name = out_name(alloc, out, file)?;
@@ -105,8 +110,8 @@ fn output_of(alloc: Global, out: &str, file: &str, text: &[u8]) -> Result<Output
     Ok(Output { name, text, fault })
 }
 
-// What is written of files, each with its text.
-fn push_outputs(
+/// What is written of files, each with its text.
+pub(crate) fn push_outputs(
     alloc: Global,
     out: &str,
     files: &[String],
@@ -130,7 +135,7 @@ fn push_outputs(
 
 // The new files of a change, to be written.
 fn changed(alloc: Global, q: &Asked<'_>, new: &NewFiles) -> Result<Verdict, NoMemory>
-    ensures { IfOk result (IsWritten (request_of q.now) new.now) }
+    ensures { IfOk result (IsWritten (spec.change_writing (request_of q.now) new.now)) }
 {
     let users = q.inputs.users.len();
     if new.texts.len() < users || new.edits.len() < users {

@@ -5,6 +5,7 @@ mod asked;
 mod call;
 mod check;
 mod decide;
+mod extract;
 pub mod laws;
 mod lines;
 mod status;

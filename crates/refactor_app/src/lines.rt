@@ -123,8 +123,8 @@ fn place_name(
     place_text(alloc, name.as_str(), at)
 }
 
-// The PLACE of a node.
-fn node_name(
+/// The PLACE of a node.
+pub(crate) fn node_name(
     alloc: Global,
     names: &[String],
     texts: &[Items<u8>],

@@ -1,9 +1,12 @@
 -- The lines that are put.
-use Rattle.std.specs.Prelude.{ℕ, List, [], ◌∷◌, ◌++◌, length, flat_map, codes}
+use Rattle.std.specs.Prelude.{ℕ, List, [], ◌∷◌, ◌++◌, length, flat_map, codes, Option, Some, None}
 use Rattle.std.specs.Fmt.{decimal}
 use Rattle.std.specs.List.{sum_by}
+use Rattle.std.specs.Option.{option_map}
+use Rattle.std.specs.String.{string_bytes}
 use Rattle.edit_writer.specs.declared.places.Place.{Place}
 use Rattle.edit_writer.specs.declared.edits.Edit.{Edit}
+use Rattle.report_text.specs.declared.extract.KeptLine.{KeptLine}
 
 -- words with a space before each but the first, and the end of the line
 abbrev pub line_of : List (List ℕ) → List ℕ
@@ -44,6 +47,33 @@ done_edits count = line_of (codes "done" ∷ decimal count ∷ codes "edits" ∷
 -- the report of the edits of files
 abbrev pub change_report : List (List ℕ) → List (List Edit) → List ℕ
 change_report files edits = edit_lines files edits ++ done_edits (sum_by length edits)
+
+-- a new file's name and its size in bytes
+abbrev pub create_line : List ℕ → ℕ → List ℕ
+create_line file bytes = line_of (codes "create" ∷ file ∷ decimal bytes ∷ [])
+
+-- a kept place: the kind and the PLACE of the node that keeps it, and the next kept place, if another is the cause
+pub record KeptParts : Type 0 where
+  pub place : List ℕ
+  pub kind : List ℕ
+  pub node : List ℕ
+  pub next : Option (List ℕ)
+
+abbrev pub kept_parts : KeptLine → KeptParts
+kept_parts k = record { place = string_bytes k.place; kind = k.kind.now; node = string_bytes k.node; next = option_map string_bytes k.next }
+
+-- what a kept place needs, or the step to the next one
+abbrev pub kept_words : List ℕ → List ℕ → Option (List ℕ) → List (List ℕ)
+kept_words kind node None = codes "needs" ∷ kind ∷ node ∷ []
+kept_words kind node (Some next) = codes "because" ∷ kind ∷ node ∷ codes "then" ∷ next ∷ []
+
+abbrev pub kept_line : KeptParts → List ℕ
+kept_line k = line_of (codes "kept" ∷ k.place ∷ kept_words k.kind k.node k.next)
+
+-- the report of the edits of files, of one new file, and of the places that are kept
+abbrev pub extract_report : List (List ℕ) → List (List Edit) → List ℕ → ℕ → List KeptParts → List ℕ
+extract_report files edits created bytes kept =
+    edit_lines files edits ++ create_line created bytes ++ flat_map kept_line kept ++ done_edits (sum_by length edits)
 
 -- the line of a type's name, and the last line of so many
 abbrev pub type_line : List ℕ → List ℕ

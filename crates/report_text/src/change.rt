@@ -2,6 +2,7 @@
 
 ghost use Rattle.std.specs.Prelude.{◌≡◌, ◌≤◌, ◌+◌, [], ◌∷◌, ◌++◌, length, map, flat_map, IfOk, OnOk};
 ghost use Rattle.std.specs.Fmt.{decimal};
+ghost use Rattle.std.specs.List.{sum_by};
 ghost use Rattle.std.specs.String.{string_bytes};
 ghost use Rattle.report_text.specs.Report as spec;
 
@@ -47,10 +48,33 @@ fn push_edits(
     Ok(())
 }
 
-fn done_edits(alloc: Global, count: usize) -> Result<String, NoMemory>
-    ensures { IfOk result (λ r. string_bytes r ≡ spec.done_edits count) }
+// The lines of the edits of all files, and their number.
+pub(crate) fn push_edits_of_files(
+    alloc: Global,
+    files: &[String],
+    edits: &[Items<Edit>],
+    lines: &mut Vec<u8>,
+) -> Result<usize, NoMemory>
+    requires { length files.now ≡ length edits.now }
+    ensures lines { OnOk result (lines.new.items ≡ lines.old.items ++ spec.edit_lines (map string_bytes files.now) edits.now) }
+    ensures count { IfOk result (λ k. k ≡ sum_by length edits.now) }
 {
-    Ok(format!(in alloc; "done {count} edits\n")?)
+    let mut count = 0;
+    for file in 0..files.len() {
+        let of_file = edits[file].as_slice();
+        push_edits(alloc, files[file].as_str(), of_file, lines)?;
+        count += of_file.len();
+    }
+    Ok(count)
+}
+
+// The last line, `done K edits`.
+pub(crate) fn push_done(alloc: Global, count: usize, lines: &mut Vec<u8>) -> Result<(), NoMemory>
+    ensures { OnOk result (lines.new.items ≡ lines.old.items ++ spec.done_edits count) }
+{
+    let last = format!(in alloc; "done {count} edits\n")?;
+    lines.extend_from_slice(last.as_bytes())?;
+    Ok(())
 }
 
 /// For each file in order, and for each of its edits in order, the line `edit FILE FROM TO BYTES TEXT`: FROM and TO are byte offsets in the old
@@ -64,13 +88,7 @@ pub fn change_report(
     ensures { IfOk result (λ r. r.items ≡ spec.change_report (map string_bytes files.now) edits.now) }
 {
     let mut lines = Vec::new(alloc);
-    let mut count = 0;
-    for file in 0..files.len() {
-        let of_file = edits[file].as_slice();
-        push_edits(alloc, files[file].as_str(), of_file, &mut lines)?;
-        count += of_file.len();
-    }
-    let last = done_edits(alloc, count)?;
-    lines.extend_from_slice(last.as_bytes())?;
+    let count = push_edits_of_files(alloc, files, edits, &mut lines)?;
+    push_done(alloc, count, &mut lines)?;
     Ok(lines)
 }

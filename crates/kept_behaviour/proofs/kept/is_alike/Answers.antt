@@ -5,9 +5,5 @@ pub returns : goal.returns
 returns c = λ holds. record {
   new = c.in_ok-new.new;
   made = c.in_ok-new.ensures.same;
-  map = c.in_ok-map.map;
-  types = c.in_ok-map.ensures.types;
-  methods = c.in_ok-map.ensures.methods;
-  fields = c.in_ok-map.ensures.fields;
   alike = c.in_ok-difference.ensures (none_holds c.in_ok-difference.difference c.is_none.result c.is_none.ensures holds);
 }

@@ -1,5 +1,11 @@
-use Rattle.kept_behaviour.proofs.Nones.{kept}
+use Rattle.kept_behaviour.proofs.Nones.{then_so}
 use Rattle.kept_behaviour.proofs.kept.keeps_behaviour.Goals as goal
 
-pub returns-in-Ok : goal.returns-in-Ok
-returns-in-Ok c = kept c.args.old.now c.args.texts.now c.args.users c.in-Ok.files c.is_alike.result c.in-Ok.ensures.checked c.is_alike.ensures
+pub returns : goal.returns
+returns c = then_so c.keeps_by.result (λ keeps. record {
+  map = c.in_ok-map.map;
+  types = c.in_ok-map.ensures.types;
+  methods = c.in_ok-map.ensures.methods;
+  fields = c.in_ok-map.ensures.fields;
+  keeps = keeps;
+}) c.keeps_by.ensures

@@ -20,4 +20,5 @@ returns-in-Some g c =
 pub returns-in-None : goal.returns-in-None
 returns-in-None g c =
     let asks = rw c.in-Ok-Asked.field-0-is at c.in-Ok-Asked.ensures in
-    way.Course.refuses (refusal.Refusal.n1 (asks_other (map string_bytes c.args.words.now) c.in-Ok-Asked.request asks c.in-None.ensures.no_change c.in-None.ensures.no_types c.in-None.ensures.no_check c.in-None.ensures.no_run)) refl c.put.ensures
+    way.Course.refuses (refusal.Refusal.n1 (asks_other (map string_bytes c.args.words.now) c.in-Ok-Asked.request asks c.in-None.ensures.no_change c.in-None.ensures.no_types c.in-None.ensures.no_check c.in-None.ensures.no_run
+    c.in-None.ensures.no_extraction)) refl c.put.ensures

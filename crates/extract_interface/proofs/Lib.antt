@@ -1,0 +1,6 @@
+mod Classes
+mod Firsts
+mod Keeping
+mod Kept
+mod Lists
+mod Wanted

@@ -1,0 +1,3 @@
+mod Order
+mod Rows
+mod Steps

@@ -1,0 +1,6 @@
+use Rattle.std.proofs.Common.{◌≡◌, ◌++◌, drop}
+use Rattle.interface_text.specs.Names as spec
+use Rattle.interface_text.proofs.names.push_path.Given as goal
+
+abbrev pub invariant-loop-name : goal.invariant-loop-name
+invariant-loop-name l = l.out.items ++ spec.path_behind l.before l.names (drop l.name-index l.path) ≡ l.fn.out.items ++ spec.path_text l.names l.path

@@ -1,0 +1,9 @@
+use Rattle.std.proofs.Common.{rules}
+use Rattle.std.proofs.lemmas.Bool.Decides.{nat_tests}
+use Rattle.std.proofs.lemmas.Iterator.Search.{all_from_yields_List}
+use Rattle.std.proofs.lemmas.Iterator.Splits.{YieldsList-from_slice_split}
+use Rattle.report_reading.specs.Words.{is_part, is_slash}
+use Rattle.report_reading.proofs.words.are_parts.Goals as goal
+
+pub returns : goal.returns
+returns c = all_from_yields_List is_part _ _ _ c.all.ensures.ran (YieldsList-from_slice_split _ is_slash c.args.word.now c.split.ensures.rest c.split.ensures.done c.split.ensures.closure (λ x r q k. search rules)) (λ x b q k. search rules)

@@ -1,0 +1,7 @@
+package shop;
+
+public interface Basket {
+    void put(int k);
+    int total();
+    void merge(Basket[] others);
+}

@@ -1,0 +1,3 @@
+interface I {
+    int on(I other);
+}

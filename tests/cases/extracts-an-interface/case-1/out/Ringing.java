@@ -1,0 +1,3 @@
+interface Ringing {
+    void ring();
+}
