@@ -1,0 +1,5 @@
+package lib;
+public class Note {
+  public Note() { }
+  public String text() { return "note"; }
+}

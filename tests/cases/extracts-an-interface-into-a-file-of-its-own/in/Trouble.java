@@ -1,0 +1,4 @@
+package lib.odd;
+public class Trouble extends Exception {
+  public Trouble() { }
+}

@@ -1,0 +1,2 @@
+package lib;
+public interface Pair<A, B> { A first(); B second(); }
