@@ -341,11 +341,12 @@ class Links:
             if is_static(method) and method.owner.file.is_user:
                 for above in self.next_above(method):
                     self.need_heads(method)
-                    self.need_heads(above)
+                    self.need_heads(above, method)
                     self.same_params(method, above)
 
-    def need_heads(self, method):
-        node = self.node_of(method)
+    def need_heads(self, method, told_at=None):
+        """The heads of a method's parameters stay; told at those of the method itself, or of another one."""
+        node = self.node_of(told_at or method)
         for param, shape in zip(node.params if node else (), self.shapes.params(method)):
             self.need(shape.place, "OVERLOAD", param)
 

@@ -4,7 +4,9 @@ ghost use Rattle.type_facts.specs.Facts.{IsReady};
 
 use crate::flows::{new_fits, value_to_maybe};
 use crate::groups::{is_several, own_type, super_type};
-use crate::place::{Place, fits, method_info, methods_named, need_all, need_unless, sees, super_as, value_type};
+use crate::place::{
+    Place, fits, method_info, methods_named, need_all, need_unless, sees, super_as, value_type,
+};
 use crate::receivers::{is_static, method_use, methods_of};
 use class_world::{JavaType, MethodInfo, copied};
 use java_core::{Before, CoreExpr};
@@ -43,8 +45,7 @@ fn param_seen(
     seen: &Seen,
     types: &[JavaType],
     index: usize,
-) -> Result<Option<JavaType>, NoMemory>
-{
+) -> Result<Option<JavaType>, NoMemory> {
     match types.get(index) {
         None => Ok(None),
         Some(t) => Ok(Some(as_seen(alloc, seen, t)?)),
@@ -104,8 +105,7 @@ fn to_params(
 // ---- candidates
 
 /// The class whose members a type has (JLS 4.4, 10.7).
-fn holder(t: &JavaType) -> Option<u32>
-{
+fn holder(t: &JavaType) -> Option<u32> {
     match t {
         JavaType::Prim(_) => None,
         JavaType::Null => None,
@@ -131,13 +131,11 @@ fn named<'a>(at: &Place<'a>, call: &Called<'_>) -> &'a [u32]
     }
 }
 
-fn same(a: bool, b: bool) -> bool
-{
+fn same(a: bool, b: bool) -> bool {
     if a { b } else { !b }
 }
 
-fn is_like(call: &Called<'_>, info: &MethodInfo) -> bool
-{
+fn is_like(call: &Called<'_>, info: &MethodInfo) -> bool {
     same(call.info.constructor, info.constructor) && info.params.len() == call.info.params.len()
 }
 
@@ -159,8 +157,7 @@ fn candidate<'a>(at: &Place<'a>, call: &Called<'_>, m: u32) -> Option<&'a Method
 
 // ---- a group of several
 
-fn some_mark(types: &[JavaType], place: u32) -> bool
-{
+fn some_mark(types: &[JavaType], place: u32) -> bool {
     for t in types {
         if is_number(own_mark(t), place) {
             return true;
@@ -169,8 +166,7 @@ fn some_mark(types: &[JavaType], place: u32) -> bool
     false
 }
 
-fn has_place(place: u32, t: &Option<JavaType>) -> bool
-{
+fn has_place(place: u32, t: &Option<JavaType>) -> bool {
     match t {
         None => false,
         Some(t) => some_mark(args_of(t), place),
@@ -343,8 +339,7 @@ fn put_in_param(
     node: u32,
     t: &JavaType,
     links: Items<Link>,
-) -> Result<Items<Link>, NoMemory>
-{
+) -> Result<Items<Link>, NoMemory> {
     let t = as_seen(alloc, seen, t)?;
     let places = places_of(alloc, &t)?;
     need_all(places.as_slice(), node, Kind::Overload, links)
@@ -356,8 +351,7 @@ fn put_in_params(
     node: u32,
     types: &[JavaType],
     mut links: Items<Link>,
-) -> Result<Items<Link>, NoMemory>
-{
+) -> Result<Items<Link>, NoMemory> {
     for t in types {
         links = put_in_param(alloc, seen, node, t, links)?;
     }
@@ -413,8 +407,7 @@ fn put_with(
 
 // ---- calls
 
-fn some_mention(class: u32, xs: &[CoreExpr]) -> bool
-{
+fn some_mention(class: u32, xs: &[CoreExpr]) -> bool {
     for x in xs {
         if mentions(class, &x.ty) {
             return true;
@@ -423,8 +416,7 @@ fn some_mention(class: u32, xs: &[CoreExpr]) -> bool
     false
 }
 
-fn is_concerned(at: &Place<'_>, ty: &JavaType, xs: &[CoreExpr]) -> bool
-{
+fn is_concerned(at: &Place<'_>, ty: &JavaType, xs: &[CoreExpr]) -> bool {
     some_mention(at.reader.class, xs) || mentions(at.reader.class, ty)
 }
 
@@ -524,7 +516,9 @@ pub(crate) fn super_call(
     requires { IsReady at.now.reader.q }
 {
     let above = super_type(alloc, at)?;
-    call(alloc, at, locals, node, &above, &above, false, method, xs, links)
+    call(
+        alloc, at, locals, node, &above, &above, false, method, xs, links,
+    )
 }
 
 fn named_call(
@@ -579,7 +573,9 @@ pub(crate) fn value_call(
 {
     let marked = receiver(alloc, at, locals, x)?;
     let links = method_use(at, &marked, method, node, links)?;
-    call(alloc, at, locals, node, &marked, &x.ty, free, method, xs, links)
+    call(
+        alloc, at, locals, node, &marked, &x.ty, free, method, xs, links,
+    )
 }
 
 /// A static call, before which a type, a value or nothing stands.

@@ -4,7 +4,9 @@ ghost use Rattle.type_facts.specs.Facts.{IsReady};
 
 use crate::flows::{all_equal, equal, equal_arguments, new_fits};
 use crate::groups::{has_double, have_one_erasure, is_several};
-use crate::place::{Place, family, method_info, methods_named, need_all, need_maybe, need_unless, overrides, step};
+use crate::place::{
+    Place, family, method_info, methods_named, need_all, need_maybe, need_unless, overrides, step,
+};
 use crate::receivers::is_static;
 use class_world::{JavaType, MethodInfo};
 use java_core::{CoreMethod, CoreParam};
@@ -16,24 +18,21 @@ use member_uses::superclass;
 use std::alloc::Global;
 use type_kinds::kinds::{args_of, class_number};
 
-fn or_seen<'a>(marked: Option<&'a JavaType>, seen: Option<&'a JavaType>) -> Option<&'a JavaType>
-{
+fn or_seen<'a>(marked: Option<&'a JavaType>, seen: Option<&'a JavaType>) -> Option<&'a JavaType> {
     match marked {
         Some(t) => Some(t),
         None => seen,
     }
 }
 
-fn param_in(info: Option<&MethodInfo>, index: usize) -> Option<&JavaType>
-{
+fn param_in(info: Option<&MethodInfo>, index: usize) -> Option<&JavaType> {
     match info {
         None => None,
         Some(info) => info.params.get(index),
     }
 }
 
-fn result_in(info: Option<&MethodInfo>) -> Option<&JavaType>
-{
+fn result_in(info: Option<&MethodInfo>) -> Option<&JavaType> {
     match info {
         None => None,
         Some(info) => match &info.result {
@@ -44,14 +43,15 @@ fn result_in(info: Option<&MethodInfo>) -> Option<&JavaType>
 }
 
 /// The declared type of a parameter, by its place from 0, marked where a user declares it.
-fn param_declared<'a>(at: &Place<'a>, m: u32, index: usize) -> Option<&'a JavaType>
-{
-    or_seen(at.reader.marks.param(m, index), param_in(method_info(at, m), index))
+fn param_declared<'a>(at: &Place<'a>, m: u32, index: usize) -> Option<&'a JavaType> {
+    or_seen(
+        at.reader.marks.param(m, index),
+        param_in(method_info(at, m), index),
+    )
 }
 
 /// The declared result, marked where a user declares it.
-fn result_declared<'a>(at: &Place<'a>, m: u32) -> Option<&'a JavaType>
-{
+fn result_declared<'a>(at: &Place<'a>, m: u32) -> Option<&'a JavaType> {
     or_seen(at.reader.marks.result(m), result_in(method_info(at, m)))
 }
 
@@ -80,8 +80,7 @@ fn hides(alloc: Global, at: &Place<'_>, info: &MethodInfo, m: u32) -> Result<boo
     }
 }
 
-fn class_above(alloc: Global, at: &Place<'_>) -> Result<Option<u32>, NoMemory>
-{
+fn class_above(alloc: Global, at: &Place<'_>) -> Result<Option<u32>, NoMemory> {
     match superclass(alloc, at.reader.q.world, at.owner)? {
         None => Ok(None),
         Some(t) => Ok(class_number(&t)),
@@ -133,8 +132,7 @@ fn hidden_param(
     other: Option<&JavaType>,
     node: u32,
     links: Items<Link>,
-) -> Result<Items<Link>, NoMemory>
-{
+) -> Result<Items<Link>, NoMemory> {
     match other {
         None => Ok(links),
         Some(u) => {
@@ -152,8 +150,7 @@ fn hidden_params(
     node: u32,
     hidden: &[u32],
     mut links: Items<Link>,
-) -> Result<Items<Link>, NoMemory>
-{
+) -> Result<Items<Link>, NoMemory> {
     for m in hidden {
         links = hidden_param(t, param_declared(at, *m, index), node, links)?;
     }
@@ -165,8 +162,7 @@ fn same_param(
     other: Option<&JavaType>,
     node: u32,
     links: Items<Link>,
-) -> Result<Items<Link>, NoMemory>
-{
+) -> Result<Items<Link>, NoMemory> {
     match other {
         None => Ok(links),
         Some(u) => {
@@ -185,8 +181,7 @@ fn family_param(
     node: u32,
     family: &[u32],
     links: Items<Link>,
-) -> Result<Items<Link>, NoMemory>
-{
+) -> Result<Items<Link>, NoMemory> {
     match family {
         [] => Ok(links),
         [first, ..] => {
@@ -203,8 +198,7 @@ fn need_all_if(
     places: &[u32],
     node: u32,
     links: Items<Link>,
-) -> Result<Items<Link>, NoMemory>
-{
+) -> Result<Items<Link>, NoMemory> {
     if several {
         return need_all(places, node, Kind::Overload, links);
     }
@@ -216,8 +210,7 @@ fn need_maybe_if(
     place: Option<u32>,
     node: u32,
     links: Items<Link>,
-) -> Result<Items<Link>, NoMemory>
-{
+) -> Result<Items<Link>, NoMemory> {
     if double {
         return need_maybe(place, node, Kind::Overload, links);
     }
@@ -486,7 +479,15 @@ fn declared(
     requires { IsReady at.now.reader.q }
 {
     let links = result(alloc, at, method.method, hidden, method.node.id, links)?;
-    params(alloc, at, method.method, info, hidden, method.params.as_slice(), links)
+    params(
+        alloc,
+        at,
+        method.method,
+        info,
+        hidden,
+        method.params.as_slice(),
+        links,
+    )
 }
 
 /// The declaration of a method or constructor.

@@ -64,7 +64,18 @@ fn created(
     requires { IsReady at.now.reader.q }
 {
     let marked = marked_inside(alloc, at.reader.class, written)?;
-    call(alloc, at, locals, e.node.id, &marked, &e.ty, false, constructor, args, links)
+    call(
+        alloc,
+        at,
+        locals,
+        e.node.id,
+        &marked,
+        &e.ty,
+        false,
+        constructor,
+        args,
+        links,
+    )
 }
 
 /// The constraints on an expression: its parts in the order of the file, and then itself.
@@ -139,7 +150,17 @@ pub(crate) fn value(
             let args = args.as_slice();
             let links = value(alloc, at, locals, of.get(), links)?;
             let links = values(alloc, at, locals, args, links)?;
-            value_call(alloc, at, locals, e.node.id, of.get(), *simple, *method, args, links)
+            value_call(
+                alloc,
+                at,
+                locals,
+                e.node.id,
+                of.get(),
+                *simple,
+                *method,
+                args,
+                links,
+            )
         }
         CoreForm::SuperCall { method, args } => {
             let args = args.as_slice();
@@ -155,7 +176,9 @@ pub(crate) fn value(
             let args = args.as_slice();
             let links = maybe_value(alloc, at, locals, of, links)?;
             let links = values(alloc, at, locals, args, links)?;
-            static_call(alloc, at, locals, e.node.id, *before, of, *method, args, links)
+            static_call(
+                alloc, at, locals, e.node.id, *before, of, *method, args, links,
+            )
         }
         CoreForm::New {
             written,

@@ -19,8 +19,7 @@ fn tied(
     node: u32,
     kind: Kind,
     links: Items<Link>,
-) -> Result<Items<Link>, NoMemory>
-{
+) -> Result<Items<Link>, NoMemory> {
     if place == other {
         return Ok(links);
     }
@@ -35,8 +34,7 @@ pub(crate) fn equal(
     node: u32,
     kind: Kind,
     links: Items<Link>,
-) -> Result<Items<Link>, NoMemory>
-{
+) -> Result<Items<Link>, NoMemory> {
     match place {
         Some(p) => match other {
             Some(q) => tied(p, q, node, kind, links),
@@ -64,8 +62,7 @@ fn args_equal(
     ys: &[JavaType],
     node: u32,
     links: Items<Link>,
-) -> Result<Items<Link>, NoMemory>
-{
+) -> Result<Items<Link>, NoMemory> {
     match t {
         None => Ok(links),
         Some(t) => all_equal(args_of(t), ys, node, links),
@@ -235,8 +232,7 @@ fn initialise_all(
     Ok(links)
 }
 
-fn is_filled(x: &CoreExpr) -> bool
-{
+fn is_filled(x: &CoreExpr) -> bool {
     match &x.form {
         CoreForm::Filled(_) => true,
         _ => false,
@@ -248,8 +244,7 @@ fn need_if_filled(
     t: &JavaType,
     node: u32,
     links: Items<Link>,
-) -> Result<Items<Link>, NoMemory>
-{
+) -> Result<Items<Link>, NoMemory> {
     if filled {
         return need_maybe(head_mark(t), node, Kind::Assign, links);
     }
@@ -278,8 +273,7 @@ fn to_inner(
     inner: Option<u32>,
     node: u32,
     links: Items<Link>,
-) -> Result<Items<Link>, NoMemory>
-{
+) -> Result<Items<Link>, NoMemory> {
     match inner {
         None => Ok(links),
         Some(inner) => step(place, inner, node, Kind::Arm, links),
@@ -336,8 +330,7 @@ fn arm_heads(
     }
 }
 
-fn inner_place(of_class: bool, node: u32) -> Option<u32>
-{
+fn inner_place(of_class: bool, node: u32) -> Option<u32> {
     if of_class { Some(node) } else { None }
 }
 
@@ -358,7 +351,9 @@ fn known_arms(
     let node = e.node.id;
     let inner = inner_place(is_number(head_class(&e.ty), at.reader.class), node);
     let marks = (head_mark(&first), head_mark(&second));
-    let links = arm_heads(alloc, at, marks.0, marks.1, &yes.ty, &no.ty, inner, node, links)?;
+    let links = arm_heads(
+        alloc, at, marks.0, marks.1, &yes.ty, &no.ty, inner, node, links,
+    )?;
     let links = equal_arguments(alloc, at, &first, &whole, yes.node.id, links)?;
     equal_arguments(alloc, at, &second, &whole, no.node.id, links)
 }
@@ -384,8 +379,7 @@ pub(crate) fn arms(
 
 // ---- casts (JLS 15.16)
 
-fn is_generic(w: &World, class: u32) -> bool
-{
+fn is_generic(w: &World, class: u32) -> bool {
     match w.types.get(class as usize) {
         None => false,
         Some(info) => 0 < info.params,
@@ -397,8 +391,7 @@ fn both_args(
     t: &Option<JavaType>,
     node: u32,
     links: Items<Link>,
-) -> Result<Items<Link>, NoMemory>
-{
+) -> Result<Items<Link>, NoMemory> {
     match s {
         None => Ok(links),
         Some(s) => match t {
@@ -488,8 +481,7 @@ pub(crate) fn cast(
 
 // ---- loops over a value (JLS 14.14.2)
 
-fn first_arg(alloc: Global, t: &Option<JavaType>) -> Result<Option<JavaType>, NoMemory>
-{
+fn first_arg(alloc: Global, t: &Option<JavaType>) -> Result<Option<JavaType>, NoMemory> {
     match t {
         None => Ok(None),
         Some(t) => match args_of(t).get(0) {
@@ -499,11 +491,7 @@ fn first_arg(alloc: Global, t: &Option<JavaType>) -> Result<Option<JavaType>, No
     }
 }
 
-fn walked_by(
-    alloc: Global,
-    at: &Place<'_>,
-    s: &JavaType,
-) -> Result<Option<JavaType>, NoMemory>
+fn walked_by(alloc: Global, at: &Place<'_>, s: &JavaType) -> Result<Option<JavaType>, NoMemory>
     requires { IsReady at.now.reader.q }
 {
     match &at.reader.q.world.walk {

@@ -9,13 +9,11 @@ use member_uses::superclass;
 use std::alloc::Global;
 
 /// The type of `this` in code of a user, whose classes have no type parameters (JLS 8.1.2).
-pub(crate) fn own_type(alloc: Global, at: &Place<'_>) -> JavaType
-{
+pub(crate) fn own_type(alloc: Global, at: &Place<'_>) -> JavaType {
     JavaType::Class(at.owner, Items::new(alloc))
 }
 
-fn type_or_null(t: Option<JavaType>) -> JavaType
-{
+fn type_or_null(t: Option<JavaType>) -> JavaType {
     match t {
         None => JavaType::Null,
         Some(t) => t,
@@ -23,8 +21,7 @@ fn type_or_null(t: Option<JavaType>) -> JavaType
 }
 
 /// The type that `super` stands for (JLS 8.1.4).
-pub(crate) fn super_type(alloc: Global, at: &Place<'_>) -> Result<JavaType, NoMemory>
-{
+pub(crate) fn super_type(alloc: Global, at: &Place<'_>) -> Result<JavaType, NoMemory> {
     let above = superclass(alloc, at.reader.q.world, at.owner)?;
     Ok(type_or_null(above))
 }
@@ -123,8 +120,7 @@ pub(crate) fn is_several(
     Ok(false)
 }
 
-pub(crate) fn is_among(numbers: &[u32], m: u32) -> bool
-{
+pub(crate) fn is_among(numbers: &[u32], m: u32) -> bool {
     for j in numbers {
         if *j == m {
             return true;

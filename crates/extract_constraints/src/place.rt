@@ -54,8 +54,7 @@ pub(crate) fn methods_named<'a>(at: &Place<'a>, class: u32, name: Name, arity: u
 }
 
 /// Whether the class around has access to a method (JLS 6.6).
-pub(crate) fn sees(at: &Place<'_>, method: u32) -> bool
-{
+pub(crate) fn sees(at: &Place<'_>, method: u32) -> bool {
     asks::has_access(&at.reader.q, at.owner, Declared::Method(method))
 }
 
@@ -79,13 +78,11 @@ pub(crate) fn overrides(at: &Place<'_>, method: u32, other: u32) -> bool
 }
 
 /// A method, by its number.
-pub(crate) fn method_info<'a>(at: &Place<'a>, method: u32) -> Option<&'a MethodInfo>
-{
+pub(crate) fn method_info<'a>(at: &Place<'a>, method: u32) -> Option<&'a MethodInfo> {
     at.reader.q.world.methods.get(method as usize)
 }
 
-fn is_known(w: &World, method: u32) -> bool
-{
+fn is_known(w: &World, method: u32) -> bool {
     (method as usize) < w.methods.len()
 }
 
@@ -113,8 +110,7 @@ pub(crate) fn group<'a>(at: &Place<'a>, method: u32) -> &'a [u32]
 
 // ---- links
 
-fn linked(link: Link, links: Items<Link>) -> Result<Items<Link>, NoMemory>
-{
+fn linked(link: Link, links: Items<Link>) -> Result<Items<Link>, NoMemory> {
     let mut links = links;
     links.push(link)?;
     Ok(links)
@@ -126,8 +122,7 @@ pub(crate) fn need(
     node: u32,
     kind: Kind,
     links: Items<Link>,
-) -> Result<Items<Link>, NoMemory>
-{
+) -> Result<Items<Link>, NoMemory> {
     let link = Link {
         from: place,
         node,
@@ -144,8 +139,7 @@ pub(crate) fn step(
     node: u32,
     kind: Kind,
     links: Items<Link>,
-) -> Result<Items<Link>, NoMemory>
-{
+) -> Result<Items<Link>, NoMemory> {
     let link = Link {
         from: place,
         node,
@@ -160,8 +154,7 @@ pub(crate) fn need_all(
     node: u32,
     kind: Kind,
     mut links: Items<Link>,
-) -> Result<Items<Link>, NoMemory>
-{
+) -> Result<Items<Link>, NoMemory> {
     for place in places {
         links = need(*place, node, kind, links)?;
     }
@@ -173,8 +166,7 @@ pub(crate) fn need_maybe(
     node: u32,
     kind: Kind,
     links: Items<Link>,
-) -> Result<Items<Link>, NoMemory>
-{
+) -> Result<Items<Link>, NoMemory> {
     match place {
         None => Ok(links),
         Some(place) => need(place, node, kind, links),
@@ -187,8 +179,7 @@ pub(crate) fn need_unless(
     node: u32,
     kind: Kind,
     links: Items<Link>,
-) -> Result<Items<Link>, NoMemory>
-{
+) -> Result<Items<Link>, NoMemory> {
     if met {
         return Ok(links);
     }

@@ -63,8 +63,7 @@ fn in_fields(
     Ok(links)
 }
 
-fn or_own(alloc: Global, t: Option<&JavaType>, own: &JavaType) -> Result<JavaType, NoMemory>
-{
+fn or_own(alloc: Global, t: Option<&JavaType>, own: &JavaType) -> Result<JavaType, NoMemory> {
     match t {
         Some(t) => copied(alloc, t),
         None => copied(alloc, own),
@@ -77,8 +76,7 @@ fn param_locals(
     at: &Place<'_>,
     method: u32,
     params: &[CoreParam],
-) -> Result<Items<JavaType>, NoMemory>
-{
+) -> Result<Items<JavaType>, NoMemory> {
     let mut locals = Items::new(alloc);
     for (index, param) in params.iter().enumerate() {
         let t = or_own(alloc, at.reader.marks.param(method, index), &param.ty)?;
@@ -206,8 +204,7 @@ fn in_files(
     Ok(links)
 }
 
-fn first_files(files: &[CoreFile], users: usize) -> &[CoreFile]
-{
+fn first_files(files: &[CoreFile], users: usize) -> &[CoreFile] {
     if users <= files.len() {
         &files[..users]
     } else {

@@ -14,22 +14,19 @@ use std::alloc::Global;
 use type_kinds::kinds::has;
 
 /// Whether a method is static (JLS 8.4.3.2).
-pub(crate) fn is_static(info: &MethodInfo) -> bool
-{
+pub(crate) fn is_static(info: &MethodInfo) -> bool {
     has(Mod::Static, info.mods.as_slice())
 }
 
 /// The methods that a type declares, by its number.
-pub(crate) fn methods_of(w: &World, class: u32) -> &[u32]
-{
+pub(crate) fn methods_of(w: &World, class: u32) -> &[u32] {
     match w.types.get(class as usize) {
         None => &[],
         Some(info) => info.methods.as_slice(),
     }
 }
 
-fn is_public_method(info: Option<&MethodInfo>) -> bool
-{
+fn is_public_method(info: Option<&MethodInfo>) -> bool {
     match info {
         None => false,
         Some(info) => !info.constructor && has(Mod::Public, info.mods.as_slice()),

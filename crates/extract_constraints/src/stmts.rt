@@ -25,8 +25,7 @@ pub(crate) fn with_local(
     locals: Items<JavaType>,
     slot: u32,
     t: JavaType,
-) -> Result<Items<JavaType>, NoMemory>
-{
+) -> Result<Items<JavaType>, NoMemory> {
     let mut locals = locals;
     let at = slot as usize;
     for _ in locals.len()..at {
@@ -129,8 +128,7 @@ fn thrown(
     Ok(links)
 }
 
-fn given_mark<'a>(at: &Place<'a>) -> Option<&'a JavaType>
-{
+fn given_mark<'a>(at: &Place<'a>) -> Option<&'a JavaType> {
     match at.method {
         None => None,
         Some(method) => at.reader.marks.result(method),
@@ -226,7 +224,16 @@ fn on_this_call(
 {
     let Walked { locals, links } = s;
     let links = values(alloc, at, locals.as_slice(), args, links)?;
-    let links = own_call(alloc, at, locals.as_slice(), node, false, constructor, args, links)?;
+    let links = own_call(
+        alloc,
+        at,
+        locals.as_slice(),
+        node,
+        false,
+        constructor,
+        args,
+        links,
+    )?;
     Ok(Walked { locals, links })
 }
 
@@ -247,8 +254,7 @@ fn on_super_call(
 }
 
 /// The parameter of a catch is no place.
-fn caught(alloc: Global, slot: u32, t: &JavaType, s: Walked) -> Result<Walked, NoMemory>
-{
+fn caught(alloc: Global, slot: u32, t: &JavaType, s: Walked) -> Result<Walked, NoMemory> {
     let Walked { locals, links } = s;
     let locals = with_local(locals, slot, copied(alloc, t)?)?;
     Ok(Walked { locals, links })

@@ -32,7 +32,7 @@ pub extract_text : (files : List (List ℕ)) (edits : List (List Edit)) (created
 extract_text files edits created bytes kept =
     let behind : List Parts = map KeptOf kept ++ DoneOf (sum_by length edits) ∷ [] in
     let regrouped : edit_lines files edits ++ (create_line created bytes ++ (flat_map kept_line kept ++ done_edits (sum_by length edits))) ≡ extract_report files edits created bytes kept =
-        regroup (edit_lines files edits) (create_line created bytes) (flat_map kept_line kept) (done_edits (sum_by length edits)) in
+    regroup (edit_lines files edits) (create_line created bytes) (flat_map kept_line kept) (done_edits (sum_by length edits)) in
     flat_map-append line_text (lines_of_edits files edits) (CreateOf created bytes ∷ behind)
     ∙ ap (λ (x : List ℕ). x ++ lines_text (CreateOf created bytes ∷ behind)) (edits_text files edits)
     ∙ ap (λ (x : List ℕ). edit_lines files edits ++ x) (flat_map-cons line_text (CreateOf created bytes) behind ∙ ap (λ (x : List ℕ). create_line created bytes ++ x) (ends_text kept (sum_by length edits)))

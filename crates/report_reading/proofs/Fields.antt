@@ -173,7 +173,8 @@ place_again file at e l k =
       seek_again is_ascii_digit 58 refl [] (decimal at.line) (decimal at.col) (number_digits at.line (omega arith)),
       number_again (2 ^ 32 - 1) at.line (omega arith) (omega arith),
       number_again (2 ^ 32 - 1) at.col (omega arith) (omega arith),
-      e)
+      e,
+    )
     (text_again (place_text file at) (place_bytes file at e l k))
 
 place_takes : (w x : List ℕ) → place_of w ≡ Some x → (w ≡ x) × IsPlace x
@@ -189,8 +190,8 @@ place_takes w x e =
     let col = number_takes most b.0.1 k.0 k.1 in
     let at : Place = record { line = l.0; col = k.0 } in
     let text : w ≡ place_text a.0.0 at =
-        seek_takes 58 [] w a.0 a.1
-        ∙ ap (λ (z : List ℕ). a.0.0 ++ (58 ∷ z)) (seek_takes 58 [] a.0.1 b.0 b.1 ∙ ap (λ (z : List ℕ). z ++ (58 ∷ b.0.1)) line.0 ∙ ap (λ (z : List ℕ). decimal l.0 ++ (58 ∷ z)) col.0) in
+    seek_takes 58 [] w a.0 a.1
+    ∙ ap (λ (z : List ℕ). a.0.0 ++ (58 ∷ z)) (seek_takes 58 [] a.0.1 b.0 b.1 ∙ ap (λ (z : List ℕ). z ++ (58 ∷ b.0.1)) line.0 ∙ ap (λ (z : List ℕ). decimal l.0 ++ (58 ∷ z)) col.0) in
     let t = text_takes w x g.1 in
     (t, subst IsPlace t (record { file = a.0.0; at = at; path = g.0; line = omega (arith, line.1); col = omega (arith, col.1); text = text }))
 

@@ -79,7 +79,7 @@ edit_takes text x e =
     let words : List (List ℕ) = codes "edit" ∷ file.0.0 ∷ decimal from.0.0 ∷ decimal to.0.0 ∷ decimal (length made.0.0) ∷ made.0.0 ∷ [] in
     let sized : decimal size.0.0 ≡ decimal (length made.0.0) = ap decimal (sym m.1) in
     let whole : codes "edit " ++ text ≡ row words rest.0 =
-        ap (λ (z : List ℕ). codes "edit " ++ z) (f.0 ∙ ap (λ (z : List ℕ). file.0.0 ++ (32 ∷ z)) (a.0 ∙ ap (λ (z : List ℕ). decimal from.0.0 ++ (32 ∷ z)) (b.0 ∙ ap (λ (z : List ℕ). decimal to.0.0 ++ (32 ∷ z)) (s.0 ∙ ap (λ (z : List ℕ). z ++ (32 ∷ size.0.1)) sized ∙ ap (λ (z : List ℕ). decimal (length made.0.0) ++ (32 ∷ z)) (m.0 ∙ ap (λ (z : List ℕ). made.0.0 ++ z) r))))) in
+    ap (λ (z : List ℕ). codes "edit " ++ z) (f.0 ∙ ap (λ (z : List ℕ). file.0.0 ++ (32 ∷ z)) (a.0 ∙ ap (λ (z : List ℕ). decimal from.0.0 ++ (32 ∷ z)) (b.0 ∙ ap (λ (z : List ℕ). decimal to.0.0 ++ (32 ∷ z)) (s.0 ∙ ap (λ (z : List ℕ). z ++ (32 ∷ size.0.1)) sized ∙ ap (λ (z : List ℕ). decimal (length made.0.0) ++ (32 ∷ z)) (m.0 ∙ ap (λ (z : List ℕ). made.0.0 ++ z) r))))) in
     subst (Takes (codes "edit " ++ text)) (some_is (EditOf file.0.0 (record { from = from.0.0; to = to.0.0; text = made.0.0 }), rest.0) x rest.2) (record {
       whole = whole ∙ sym (line_row words rest.0);
       line = record { path = f.1; from = omega (arith, a.1); to = omega (arith, b.1); size = omega (arith, s.1, m.1) };
@@ -95,7 +95,8 @@ edit_again file e r h =
       number_again small (lit< tt) 32 refl e.to _ (omega (arith, h.to)),
       number_again large (lit< tt) 32 refl (length e.text) (e.text ++ (10 ∷ r)) (omega (arith, h.size)),
       bytes_again e.text (10 ∷ r),
-      after_again (10 ∷ []) r)
+      after_again (10 ∷ []) r,
+    )
     refl
 
 -- ---- create and done
@@ -108,7 +109,7 @@ create_takes text x e =
     let f = path_takes 32 text file.0 file.1 in
     let s = number_takes large (lit< tt) 10 file.0.1 size.0 size.1 in
     let whole : codes "create " ++ text ≡ row (codes "create" ∷ file.0.0 ∷ decimal size.0.0 ∷ []) size.0.1 =
-        ap (λ (z : List ℕ). codes "create " ++ z) (f.0 ∙ ap (λ (z : List ℕ). file.0.0 ++ (32 ∷ z)) s.0) in
+    ap (λ (z : List ℕ). codes "create " ++ z) (f.0 ∙ ap (λ (z : List ℕ). file.0.0 ++ (32 ∷ z)) s.0) in
     subst (Takes (codes "create " ++ text)) (some_is (CreateOf file.0.0 size.0.0, size.0.1) x size.2) (record {
       whole = whole ∙ sym (line_row (codes "create" ∷ file.0.0 ∷ decimal size.0.0 ∷ []) size.0.1);
       line = (f.1, omega (arith, s.1));
@@ -126,7 +127,7 @@ done_takes text x e =
     let n = number_takes small (lit< tt) 32 text edits.0 edits.1 in
     let r = after_takes (codes "edits" ++ (10 ∷ [])) edits.0.1 rest.0 rest.1 in
     let whole : codes "done " ++ text ≡ row (codes "done" ∷ decimal edits.0.0 ∷ codes "edits" ∷ []) rest.0 =
-        ap (λ (z : List ℕ). codes "done " ++ z) (n.0 ∙ ap (λ (z : List ℕ). decimal edits.0.0 ++ (32 ∷ z)) r) in
+    ap (λ (z : List ℕ). codes "done " ++ z) (n.0 ∙ ap (λ (z : List ℕ). decimal edits.0.0 ++ (32 ∷ z)) r) in
     subst (Takes (codes "done " ++ text)) (some_is (DoneOf edits.0.0, rest.0) x rest.2) (record {
       whole = whole ∙ sym (line_row (codes "done" ∷ decimal edits.0.0 ∷ codes "edits" ∷ []) rest.0);
       line = omega (arith, n.1);
@@ -151,7 +152,7 @@ because_takes place text x is e =
     let t = place_takes 10 behind.0 next.0 next.1 in
     let words : List (List ℕ) = codes "kept" ∷ place ∷ codes "because" ∷ kind.0.0 ∷ node.0.0 ∷ codes "then" ∷ next.0.0 ∷ [] in
     let whole : codes "kept " ++ (place ++ (32 ∷ (codes "because " ++ text))) ≡ row words next.0.1 =
-        ap (λ (z : List ℕ). codes "kept " ++ (place ++ (32 ∷ (codes "because " ++ z)))) (k.0 ∙ ap (λ (z : List ℕ). kind.0.0 ++ (32 ∷ z)) (n.0 ∙ ap (λ (z : List ℕ). node.0.0 ++ (32 ∷ z)) (b ∙ ap (λ (z : List ℕ). codes "then " ++ z) t.0))) in
+    ap (λ (z : List ℕ). codes "kept " ++ (place ++ (32 ∷ (codes "because " ++ z)))) (k.0 ∙ ap (λ (z : List ℕ). kind.0.0 ++ (32 ∷ z)) (n.0 ∙ ap (λ (z : List ℕ). node.0.0 ++ (32 ∷ z)) (b ∙ ap (λ (z : List ℕ). codes "then " ++ z) t.0))) in
     subst (Takes (codes "kept " ++ (place ++ (32 ∷ (codes "because " ++ text))))) (some_is (KeptOf (record { place = place; kind = kind.0.0; node = node.0.0; next = Some next.0.0 }), next.0.1) x next.2) (record {
       whole = whole ∙ sym (line_row words next.0.1);
       line = record { place = is; kind = k.1; node = n.1; next = t.1 };
@@ -167,7 +168,8 @@ because_again k next r h e =
       place_again 32 refl k.node _ h.node,
       after_again (codes "then ") (next ++ (10 ∷ r)),
       place_again 10 refl next r is,
-      ← e)
+      ← e,
+    )
     refl
 
 needs_takes : (place text : List ℕ) (x : Parts × List ℕ) → IsPlace place → needs_at place text ≡ Some x → Takes (codes "kept " ++ (place ++ (32 ∷ (codes "needs " ++ text)))) x
@@ -179,7 +181,7 @@ needs_takes place text x is e =
     let n = place_takes 10 kind.0.1 node.0 node.1 in
     let words : List (List ℕ) = codes "kept" ∷ place ∷ codes "needs" ∷ kind.0.0 ∷ node.0.0 ∷ [] in
     let whole : codes "kept " ++ (place ++ (32 ∷ (codes "needs " ++ text))) ≡ row words node.0.1 =
-        ap (λ (z : List ℕ). codes "kept " ++ (place ++ (32 ∷ (codes "needs " ++ z)))) (k.0 ∙ ap (λ (z : List ℕ). kind.0.0 ++ (32 ∷ z)) n.0) in
+    ap (λ (z : List ℕ). codes "kept " ++ (place ++ (32 ∷ (codes "needs " ++ z)))) (k.0 ∙ ap (λ (z : List ℕ). kind.0.0 ++ (32 ∷ z)) n.0) in
     subst (Takes (codes "kept " ++ (place ++ (32 ∷ (codes "needs " ++ text))))) (some_is (KeptOf (record { place = place; kind = kind.0.0; node = node.0.0; next = None }), node.0.1) x node.2) (record {
       whole = whole ∙ sym (line_row words node.0.1);
       line = record { place = is; kind = k.1; node = n.1; next = tt };
@@ -200,13 +202,13 @@ kept_takes text x e =
     let place = bind_some (field place_of 32 text) (λ place. choose (after (codes "because ") place.1) (because_at place.0) (choose (after (codes "needs ") place.1) (needs_at place.0) None)) x e in
     let p = place_takes 32 text place.0 place.1 in
     let from : (front rest : List ℕ) → after front place.0.1 ≡ Some rest → Takes (codes "kept " ++ (place.0.0 ++ (32 ∷ (front ++ rest)))) x → Takes (codes "kept " ++ text) x =
-        λ front rest a t. subst (λ (z : List ℕ). Takes (codes "kept " ++ z) x) (sym (p.0 ∙ ap (λ (z : List ℕ). place.0.0 ++ (32 ∷ z)) (after_takes front place.0.1 rest a))) t in
+    λ front rest a t. subst (λ (z : List ℕ). Takes (codes "kept " ++ z) x) (sym (p.0 ∙ ap (λ (z : List ℕ). place.0.0 ++ (32 ∷ z)) (after_takes front place.0.1 rest a))) t in
     elim (chosen (after (codes "because ") place.0.1) (because_at place.0.0) (choose (after (codes "needs ") place.0.1) (needs_at place.0.0) None) x place.2) [
       | inl b ↦ from (codes "because ") b.0 b.1 (because_takes place.0.0 b.0 x p.1 b.2)
       | inr o ↦ elim (chosen (after (codes "needs ") place.0.1) (needs_at place.0.0) None x o) [
-          | inl b ↦ from (codes "needs ") b.0 b.1 (needs_takes place.0.0 b.0 x p.1 b.2)
-          | inr n ↦ absurd cc
-        ]
+        | inl b ↦ from (codes "needs ") b.0 b.1 (needs_takes place.0.0 b.0 x p.1 b.2)
+        | inr n ↦ absurd cc
+      ]
     ]
 
 kept_again : (k : KeptParts) (o : Option (List ℕ)) (r : List ℕ) → IsKept k → k.next ≡ o → kept_at (k.place ++ (32 ∷ row (kept_words k.kind k.node o) r)) ≡ Some (KeptOf k, r)
@@ -220,19 +222,19 @@ pub line_takes : (text : List ℕ) (x : Parts × List ℕ) → line_at text ≡ 
 unfolding line_at
 line_takes text x e =
     let from : (front rest : List ℕ) → after front text ≡ Some rest → Takes (front ++ rest) x → Takes text x =
-        λ front rest a t. subst (λ (z : List ℕ). Takes z x) (sym (after_takes front text rest a)) t in
+    λ front rest a t. subst (λ (z : List ℕ). Takes z x) (sym (after_takes front text rest a)) t in
     elim (chosen (after (codes "edit ") text) edit_at (choose (after (codes "create ") text) create_at (choose (after (codes "kept ") text) kept_at (choose (after (codes "done ") text) done_at None))) x e) [
       | inl b ↦ from (codes "edit ") b.0 b.1 (edit_takes b.0 x b.2)
       | inr o ↦ elim (chosen (after (codes "create ") text) create_at (choose (after (codes "kept ") text) kept_at (choose (after (codes "done ") text) done_at None)) x o) [
-          | inl b ↦ from (codes "create ") b.0 b.1 (create_takes b.0 x b.2)
-          | inr o ↦ elim (chosen (after (codes "kept ") text) kept_at (choose (after (codes "done ") text) done_at None) x o) [
-              | inl b ↦ from (codes "kept ") b.0 b.1 (kept_takes b.0 x b.2)
-              | inr o ↦ elim (chosen (after (codes "done ") text) done_at None x o) [
-                  | inl b ↦ from (codes "done ") b.0 b.1 (done_takes b.0 x b.2)
-                  | inr n ↦ absurd cc
-                ]
-            ]
+        | inl b ↦ from (codes "create ") b.0 b.1 (create_takes b.0 x b.2)
+        | inr o ↦ elim (chosen (after (codes "kept ") text) kept_at (choose (after (codes "done ") text) done_at None) x o) [
+          | inl b ↦ from (codes "kept ") b.0 b.1 (kept_takes b.0 x b.2)
+          | inr o ↦ elim (chosen (after (codes "done ") text) done_at None x o) [
+            | inl b ↦ from (codes "done ") b.0 b.1 (done_takes b.0 x b.2)
+            | inr n ↦ absurd cc
+          ]
         ]
+      ]
     ]
 
 kept_first : (k : KeptParts) (o : Option (List ℕ)) (r : List ℕ) → IsKept k → k.next ≡ o → line_at (row (codes "kept" ∷ k.place ∷ kept_words k.kind k.node o) r) ≡ Some (KeptOf k, r)
@@ -289,6 +291,7 @@ ends ls ms rest a b e some none = at_more (goes_on ls ms rest a b e)
     at_rest (m ∷ more) are t =
         let one = line_again m (lines_text more) are.0 in
         cc (one, sym (ap line_at (flat_map-cons line_text m more)) ∙ ap line_at t ∙ none)
+
     at_more : GoesOn ls ms rest → ⊥
     at_more g = at_rest g.more g.are g.text
 
@@ -299,6 +302,7 @@ alone ls ms a b e = at_more (goes_on ls ms [] a b (e ∙ sym (append-nil (lines_
     at_none : (more : List Parts) → lines_text more ≡ [] → more ≡ []
     at_none [] t = refl
     at_none (m ∷ more) t = absurd (some_text m (lines_text more) (sym (flat_map-cons line_text m more) ∙ t))
+
     at_more : GoesOn ls ms [] → ls ≡ ms
     at_more g = sym (g.joined ∙ ap (λ (x : List Parts). ls ++ x) (at_none g.more g.text) ∙ append-nil ls)
 

@@ -13,7 +13,10 @@ pub enum Line {
         text: Items<u8>,
     },
     /// A new file, and its size in bytes.
-    Create { file: String, bytes: u64 },
+    Create {
+        file: String,
+        bytes: u64,
+    },
     /// A place that keeps its type: the kind and the place of the node that is the cause, and the next kept place, where the node leads to one.
     Kept {
         place: String,
@@ -22,5 +25,7 @@ pub enum Line {
         next: Option<String>,
     },
     /// The number of edits.
-    Done { edits: u32 },
+    Done {
+        edits: u32,
+    },
 }

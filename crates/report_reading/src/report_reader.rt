@@ -51,11 +51,9 @@ pub fn read_report(alloc: Global, text: &[u8]) -> Result<Option<Items<Line>>, No
     // What is written so is read.
     ensures only { (ms : List Parts) → AreLines ms → lines_text ms ≡ text.now → IfOk result (λ r. option_map (map parts) r ≡ Some ms) }
     // The report of an extracted interface gives its lines back, where their names, places and numbers are such.
-    ensures extracted {
-        (files : List (List ℕ)) (edits : List (List Edit)) (created : List ℕ) (bytes : ℕ) (kept : List KeptParts) →
+    ensures extracted { (files : List (List ℕ)) (edits : List (List Edit)) (created : List ℕ) (bytes : ℕ) (kept : List KeptParts) →
         text.now ≡ extract_report files edits created bytes kept → AreLines (extract_lines files edits created bytes kept) →
-        IfOk result (λ r. option_map (map parts) r ≡ Some (extract_lines files edits created bytes kept))
-    }
+        IfOk result (λ r. option_map (map parts) r ≡ Some (extract_lines files edits created bytes kept)) }
 {
     read(alloc, text)
 }
