@@ -60,8 +60,8 @@ pub(crate) fn body_at(
     body_alike(sides, node, before, after).map_err(Difference::Tree)
 }
 
-// Whether the fields that a type declares are those of the type that it goes to.
-fn fields_at(
+/// Whether the fields that a type declares are those of the type that it goes to.
+pub(crate) fn fields_at(
     sides: &Sides<'_>,
     old: &Running<'_>,
     new: &Running<'_>,

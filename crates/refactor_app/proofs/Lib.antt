@@ -12,3 +12,4 @@ pub mod OneReading
 pub mod OneSense
 pub mod Places
 pub mod Tables
+mod Listing

@@ -1,10 +1,13 @@
 //! What becomes of an extraction from checked files.
 
-ghost use Rattle.std.specs.Prelude.{◌≡◌, ◌≤◌, length, map, Some, IfOk};
+ghost use Rattle.std.specs.Prelude.{◌≡◌, ◌≤◌, ℕ, List, length, map, Some, IfOk};
 ghost use Rattle.std.specs.Option.{option_map};
 ghost use Rattle.std.specs.String.{string_bytes};
 ghost use Rattle.java_tree.specs.Names.{AreDistinct};
+ghost use Rattle.java_tree.specs.Plain as unit;
 ghost use Rattle.java_tree.specs.View.{unit_plain};
+ghost use Rattle.node_places.specs.Places.{place_of};
+ghost use Rattle.node_lists.specs.Table.{told};
 ghost use Rattle.class_world.specs.Sound.{IsSound};
 ghost use Rattle.member_table.specs.Table.{HoldsMembers};
 ghost use Rattle.decl_table.specs.Program.{Program};
@@ -18,7 +21,7 @@ ghost use Rattle.refactor_app.specs.Words.{Files, inputs};
 
 use crate::asked::AskedExtract;
 use crate::decide::{Output, Verdict, output_of, push_outputs};
-use crate::lines::node_name;
+use crate::lines::{listed_name, node_name};
 use checked_files::Declared;
 use checker::{CheckedProgram, java_names, length_name};
 use extract_interface::{Against, Answer, Extracted, Wish, extract_interface};
@@ -26,6 +29,8 @@ use generalize_declared::CheckedSource;
 use java_tree::tree::SourceUnit;
 use java_tree::{Items, Names, NoMemory};
 use kept_places::{Kept, Kind};
+use node_lists::places_of;
+use node_places::NodePlace;
 use report_text::{KeptLine, extract_report, refused_place};
 use std::alloc::Global;
 use type_facts::Questions;
@@ -98,16 +103,16 @@ fn next_name(
     alloc: Global,
     names: &[String],
     texts: &[Items<u8>],
-    units: &[SourceUnit],
+    table: &[Option<NodePlace>],
     next: Option<u32>,
 ) -> Result<Option<String>, NoMemory>
     requires small { AreSmall texts.now }
-    ensures { (fs : Files) → inputs fs ≡ map string_bytes names.now
-        → IfOk result (λ r. option_map string_bytes r ≡ spec.next_name fs texts.now (map unit_plain units.now) next) }
+    ensures { (fs : Files) (us : List unit.SourceUnit) → inputs fs ≡ map string_bytes names.now → ((k : ℕ) → told table.now k ≡ place_of us k)
+        → IfOk result (λ r. option_map string_bytes r ≡ spec.next_name fs texts.now us next) }
 {
     match next {
         None => Ok(None),
-        Some(node) => Ok(Some(node_name(alloc, names, texts, units, Some(node))?)),
+        Some(node) => Ok(Some(listed_name(alloc, names, texts, table, node)?)),
     }
 }
 
@@ -116,22 +121,41 @@ fn kept_line(
     alloc: Global,
     names: &[String],
     texts: &[Items<u8>],
-    units: &[SourceUnit],
+    table: &[Option<NodePlace>],
     kept: Kept,
 ) -> Result<KeptLine, NoMemory>
     requires small { AreSmall texts.now }
-    ensures { (fs : Files) → inputs fs ≡ map string_bytes names.now
-        → IfOk result (λ r. kept_parts r ≡ spec.kept_told fs texts.now (map unit_plain units.now) kept) }
+    ensures { (fs : Files) (us : List unit.SourceUnit) → inputs fs ≡ map string_bytes names.now → ((k : ℕ) → told table.now k ≡ place_of us k)
+        → IfOk result (λ r. kept_parts r ≡ spec.kept_told fs texts.now us kept) }
 {
-    let place = node_name(alloc, names, texts, units, Some(kept.place))?;
-    let node = node_name(alloc, names, texts, units, Some(kept.node))?;
-    let next = next_name(alloc, names, texts, units, kept.next)?;
+    let place = listed_name(alloc, names, texts, table, kept.place)?;
+    let node = listed_name(alloc, names, texts, table, kept.node)?;
+    let next = next_name(alloc, names, texts, table, kept.next)?;
     Ok(KeptLine {
         place,
         kind: kind_name(kept.kind),
         node,
         next,
     })
+}
+
+// What the report says of kept places, by a table of the places of nodes.
+fn listed_lines(
+    alloc: Global,
+    names: &[String],
+    texts: &[Items<u8>],
+    table: &[Option<NodePlace>],
+    kept: &[Kept],
+) -> Result<Items<KeptLine>, NoMemory>
+    requires small { AreSmall texts.now }
+    ensures { (fs : Files) (us : List unit.SourceUnit) → inputs fs ≡ map string_bytes names.now → ((k : ℕ) → told table.now k ≡ place_of us k)
+        → IfOk result (λ r. map kept_parts r ≡ map (spec.kept_told fs texts.now us) kept.now) }
+{
+    let mut lines = Items::new(alloc);
+    for one in kept {
+        lines.push(kept_line(alloc, names, texts, table, *one)?)?;
+    }
+    Ok(lines)
 }
 
 // What the report says of kept places.
@@ -146,11 +170,8 @@ fn kept_lines(
     ensures { (fs : Files) → inputs fs ≡ map string_bytes names.now
         → IfOk result (λ r. map kept_parts r ≡ map (spec.kept_told fs texts.now (map unit_plain units.now)) kept.now) }
 {
-    let mut lines = Items::new(alloc);
-    for one in kept {
-        lines.push(kept_line(alloc, names, texts, units, *one)?)?;
-    }
-    Ok(lines)
+    let table = places_of(alloc, units)?;
+    listed_lines(alloc, names, texts, table.as_slice(), kept)
 }
 
 // The user's new files and the created one, to be written.

@@ -3,7 +3,9 @@
 ghost use Rattle.std.specs.Prelude.{◌≡◌, ◌<◌, ◌≤◌, ℕ, List, Some, length, map, flat_map, slice_get, codes, Err, IfOk, option_and_then};
 ghost use Rattle.std.specs.String.{string_bytes};
 ghost use Rattle.java_tree.specs.View.{unit_plain};
+ghost use Rattle.java_tree.specs.Plain as unit;
 ghost use Rattle.node_places.specs.Places.{place_of};
+ghost use Rattle.node_lists.specs.Table.{told};
 ghost use Rattle.source_files.specs.Held.{AreSmall};
 ghost use Rattle.source_files.specs.Answers.{HasParsed};
 ghost use Rattle.refactor_app.specs.Words.{Files, inputs};
@@ -17,6 +19,7 @@ use edit_writer::place_at;
 use generalize_declared::Against;
 use java_tree::tree::SourceUnit;
 use java_tree::{Broken, Family, Items, NoMemory};
+use node_lists::place_in;
 use node_places::{NodePlace, first_byte};
 use report_text::{checked_files, place_text, refused_at, refused_place, rule_name, unchecked_at};
 use source_files::TreeStop;
@@ -135,6 +138,24 @@ pub(crate) fn node_name(
     ensures { (fs : Files) → inputs fs ≡ map string_bytes names.now → IfOk result (λ r. string_bytes r ≡ spec.node_name fs texts.now (map unit_plain units.now) node) }
 {
     match node_place(units, node) {
+        Some(place) => place_name(alloc, names, texts, place),
+        None => nowhere(alloc),
+    }
+}
+
+/// The PLACE of a node of files of which a table tells the places of nodes.
+pub(crate) fn listed_name(
+    alloc: Global,
+    names: &[String],
+    texts: &[Items<u8>],
+    table: &[Option<NodePlace>],
+    node: u32,
+) -> Result<String, NoMemory>
+    requires small { AreSmall texts.now }
+    ensures { (fs : Files) (us : List unit.SourceUnit) → inputs fs ≡ map string_bytes names.now → ((k : ℕ) → told table.now k ≡ place_of us k)
+        → IfOk result (λ r. string_bytes r ≡ spec.node_name fs texts.now us (Some node)) }
+{
+    match place_in(table, node) {
         Some(place) => place_name(alloc, names, texts, place),
         None => nowhere(alloc),
     }
