@@ -1,5 +1,5 @@
 -- The signatures of a method's group (JLS 8.4.2).
-use Rattle.std.specs.Prelude.{ℕ, Bool, true, false, ◌&&◌, ◌||◌, not, ◌==◌, List, [], Option, Some, None}
+use Rattle.std.specs.Prelude.{ℕ, Bool, false, ◌&&◌, ◌||◌, not, ◌==◌, List, [], Option, Some, None}
 use Rattle.std.specs.List.{list_any}
 use Rattle.class_world.specs.declared.world.MethodInfo.{MethodInfo}
 use Rattle.class_world.specs.declared.world.JavaType.{JavaType}

@@ -1,5 +1,5 @@
 -- The constraints on the places of a class (Tip et al. 2011), a clause a form.
-use Rattle.std.specs.Prelude.{ℕ, zero, suc, ◌+◌, Bool, true, false, List, [], ◌∷◌, length, take, Option, Some, None, slice_get, slice_set}
+use Rattle.std.specs.Prelude.{ℕ, zero, suc, ◌+◌, Bool, true, false, List, [], ◌∷◌, Option, Some, None}
 use Rattle.java_tree.specs.declared.tree.Node.{Node}
 use Rattle.class_world.specs.declared.world.JavaType.{JavaType}
 use Rattle.class_world.specs.declared.world.JavaType.TheVariants as ty
@@ -8,10 +8,10 @@ use Rattle.type_kinds.specs.Kinds.{node_of, ty_of}
 use Rattle.kept_places.specs.declared.links.Kind.TheVariants as kind
 use Rattle.kept_places.specs.declared.links.Link.{Link}
 use Rattle.marked_types.specs.Marked.{marked, marked_inside, mentions, own_mark}
-use Rattle.marked_types.specs.Table.{field_mark, param_mark, result_mark, set_at}
+use Rattle.marked_types.specs.Table.{field_mark, param_mark, result_mark}
 use Rattle.extract_constraints.specs.declared.stmts.Walked.{Walked}
 use Rattle.extract_constraints.specs.Told.{Told, Where, need_maybe}
-use Rattle.extract_constraints.specs.Flows.{arms, cast, class_of, declare, initialise, value_to, value_to_maybe, value_type, walked, world}
+use Rattle.extract_constraints.specs.Flows.{arms, cast, class_of, declare, initialise, value_to, value_to_maybe, value_type, walked}
 use Rattle.extract_constraints.specs.Receivers.{field_use, maybe_field_use}
 use Rattle.extract_constraints.specs.Arguments.{call, own_call, static_call, super_call, value_call}
 use Rattle.extract_constraints.specs.Declarations.{declaration}

@@ -5,7 +5,7 @@ use Rattle.class_world.specs.declared.world.World.{World}
 use Rattle.kept_places.specs.declared.links.Link.{Link}
 use Rattle.marked_types.specs.Read.{Reading}
 use Rattle.marked_types.specs.Table.{marks_of}
-use Rattle.extract_constraints.specs.Told.{Told, Where}
+use Rattle.extract_constraints.specs.Told.{Told}
 use Rattle.extract_constraints.specs.Links.{in_files}
 
 abbrev pub reading : (c : ℕ) → World → List p.File → Reading

@@ -1,6 +1,5 @@
 -- What the constraints are asked of, and links.
-use Rattle.std.specs.Prelude.{◌≡◌, ℕ, Bool, true, false, List, [], ◌∷◌, ◌++◌, Option, Some, None, slice_get}
-use Rattle.class_world.specs.declared.world.World.{World}
+use Rattle.std.specs.Prelude.{◌≡◌, ℕ, Bool, true, false, List, [], ◌∷◌, ◌++◌, Option, Some, None, Result, IfOk}
 use Rattle.type_facts.specs.Facts.{AreFacts, Facts}
 use Rattle.type_facts.specs.declared.questions.Questions.{Questions}
 use Rattle.type_constraints.specs.Asked.{AreTies, Ties}
@@ -27,6 +26,15 @@ pub record Where : Type 0 where
 
 abbrev pub where_of : Place → Where
 where_of p = record { reading = reading_of p.reader; methods = p.methods.now; owner = p.owner; method = p.method }
+
+-- ---- what is said of a call, whatever tells the program
+
+abbrev pub Tells : {A : Type 0} → Place → A → (Told → Where → A) → Type 0
+Tells p r made = (k : Told) → AreTold p.reader.q k → r ≡ made k (where_of p)
+
+-- nothing is said where memory ran out
+abbrev pub Gives : {A E : Type 0} → Place → Result A E → (Told → Where → A) → Type 0
+Gives p r made = (k : Told) → AreTold p.reader.q k → IfOk r (λ x. x ≡ made k (where_of p))
 
 -- ---- links, each put behind those before it
 

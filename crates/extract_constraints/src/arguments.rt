@@ -1,6 +1,20 @@
 //! Arguments: to the parameters of a group of one signature, or among the candidates of several (JLS 15.12.2).
 
+ghost use Rattle.std.specs.Prelude.{◌≡◌, ◌&&◌, ◌||◌, not, IfOk, Some};
+ghost use Rattle.std.specs.List.{list_any};
+ghost use Rattle.std.specs.Option.{option_copied, option_map};
+ghost use Rattle.class_world.specs.Inheritance as inheritance;
+ghost use Rattle.java_core.specs.View.{maybe, plain, plains};
+ghost use Rattle.kept_places.specs.declared.links.Kind.TheVariants as kind;
+ghost use Rattle.type_kinds.specs.Kinds as kinds;
 ghost use Rattle.type_facts.specs.Facts.{IsReady};
+ghost use Rattle.type_facts.specs.Members as members;
+ghost use Rattle.marked_types.specs.Marked as marking;
+ghost use Rattle.extract_constraints.specs.Arguments as spec;
+ghost use Rattle.extract_constraints.specs.Arguments.{call_of};
+ghost use Rattle.extract_constraints.specs.Flows as flowing;
+ghost use Rattle.extract_constraints.specs.Told as told;
+ghost use Rattle.extract_constraints.specs.Told.{Gives, Tells, where_of};
 
 use crate::flows::{new_fits, value_to_maybe};
 use crate::groups::{is_several, own_type, super_type};
@@ -36,6 +50,7 @@ fn seen_method(
     info: &MethodInfo,
 ) -> Result<Seen, NoMemory>
     requires { IsReady at.now.reader.q }
+    ensures { Gives at.now result (λ k a. spec.seen_method k t.now info.now) }
 {
     seen_by(alloc, &at.reader.q, t, info.owner, is_static(info))
 }
@@ -45,7 +60,9 @@ fn param_seen(
     seen: &Seen,
     types: &[JavaType],
     index: usize,
-) -> Result<Option<JavaType>, NoMemory> {
+) -> Result<Option<JavaType>, NoMemory>
+    ensures { IfOk result (λ r. r ≡ spec.param_seen seen.now types.now index) }
+{
     match types.get(index) {
         None => Ok(None),
         Some(t) => Ok(Some(as_seen(alloc, seen, t)?)),
@@ -61,6 +78,7 @@ fn param_type(
     index: usize,
 ) -> Result<Option<JavaType>, NoMemory>
     requires { IsReady at.now.reader.q }
+    ensures { Gives at.now result (λ k a. spec.param_type k a (call_of call.now) index) }
 {
     match at.reader.marks.param(call.method, index) {
         Some(t) => Ok(Some(copied(alloc, t)?)),
@@ -81,6 +99,7 @@ fn to_param(
     links: Items<Link>,
 ) -> Result<Items<Link>, NoMemory>
     requires { IsReady at.now.reader.q }
+    ensures { Gives at.now result (λ k a. flowing.value_to_maybe k a locals.now (plain x.now) (spec.param_type k a (call_of call.now) index) links) }
 {
     let t = param_type(alloc, at, call, index)?;
     value_to_maybe(alloc, at, locals, x, t.as_ref(), links)
@@ -95,6 +114,7 @@ fn to_params(
     mut links: Items<Link>,
 ) -> Result<Items<Link>, NoMemory>
     requires { IsReady at.now.reader.q }
+    ensures { Gives at.now result (λ k a. spec.to_params k a locals.now (call_of call.now) 0 (plains xs.now) links) }
 {
     for (index, x) in xs.iter().enumerate() {
         links = to_param(alloc, at, locals, call, index, x, links)?;
@@ -105,7 +125,9 @@ fn to_params(
 // ---- candidates
 
 /// The class whose members a type has (JLS 4.4, 10.7).
-fn holder(t: &JavaType) -> Option<u32> {
+fn holder(t: &JavaType) -> Option<u32>
+    ensures { result ≡ inheritance.holder t.now }
+{
     match t {
         JavaType::Prim(_) => None,
         JavaType::Null => None,
@@ -118,6 +140,7 @@ fn holder(t: &JavaType) -> Option<u32> {
 /// The methods or constructors among which a call chooses, whether or not they may be named.
 fn named<'a>(at: &Place<'a>, call: &Called<'_>) -> &'a [u32]
     requires { IsReady at.now.reader.q }
+    ensures { Tells at.now result.now (λ k a. spec.named k a (call_of call.now)) }
 {
     match holder(call.ty) {
         None => &[],
@@ -131,22 +154,47 @@ fn named<'a>(at: &Place<'a>, call: &Called<'_>) -> &'a [u32]
     }
 }
 
-fn same(a: bool, b: bool) -> bool {
+fn same(a: bool, b: bool) -> bool
+    ensures { result ≡ spec.same a b }
+{
     if a { b } else { !b }
 }
 
-fn is_like(call: &Called<'_>, info: &MethodInfo) -> bool {
+fn is_like(call: &Called<'_>, info: &MethodInfo) -> bool
+    ensures { result ≡ spec.is_like (call_of call.now) info.now }
+{
     same(call.info.constructor, info.constructor) && info.params.len() == call.info.params.len()
+}
+
+fn may_name(at: &Place<'_>, call: &Called<'_>, m: u32) -> bool
+    requires { IsReady at.now.reader.q }
+    ensures { Tells at.now result (λ k a. call.now.free || spec.sees k a m) }
+{
+    if call.free {
+        return true;
+    }
+    sees(at, m)
+}
+
+fn is_candidate(at: &Place<'_>, call: &Called<'_>, m: u32, info: &MethodInfo) -> bool
+    requires { IsReady at.now.reader.q }
+    ensures { Tells at.now result (λ k a. spec.is_like (call_of call.now) info.now && (call.now.free || spec.sees k a m)) }
+{
+    if is_like(call, info) {
+        return may_name(at, call, m);
+    }
+    false
 }
 
 /// The method of a number, where it may be named and takes so many arguments.
 fn candidate<'a>(at: &Place<'a>, call: &Called<'_>, m: u32) -> Option<&'a MethodInfo>
     requires { IsReady at.now.reader.q }
+    ensures { Tells at.now (option_copied result) (λ k a. spec.candidate k a (call_of call.now) m) }
 {
     match method_info(at, m) {
         None => None,
         Some(info) => {
-            if is_like(call, info) && (call.free || sees(at, m)) {
+            if is_candidate(at, call, m, info) {
                 Some(info)
             } else {
                 None
@@ -157,7 +205,9 @@ fn candidate<'a>(at: &Place<'a>, call: &Called<'_>, m: u32) -> Option<&'a Method
 
 // ---- a group of several
 
-fn some_mark(types: &[JavaType], place: u32) -> bool {
+fn some_mark(types: &[JavaType], place: u32) -> bool
+    ensures { result ≡ list_any (λ x. marking.is_number (marking.own_mark x) place) types.now }
+{
     for t in types {
         if is_number(own_mark(t), place) {
             return true;
@@ -166,11 +216,22 @@ fn some_mark(types: &[JavaType], place: u32) -> bool {
     false
 }
 
-fn has_place(place: u32, t: &Option<JavaType>) -> bool {
+fn has_place(place: u32, t: &Option<JavaType>) -> bool
+    ensures { result ≡ spec.has_place place t.now }
+{
     match t {
         None => false,
         Some(t) => some_mark(args_of(t), place),
     }
+}
+
+fn is_kept(before: bool, place: u32, up: &Option<JavaType>) -> bool
+    ensures { result ≡ (not before || not (spec.has_place place up.now)) }
+{
+    if before {
+        return !has_place(place, up);
+    }
+    true
 }
 
 /// Whether a parameter with arguments takes, as before, an argument in whose type a place among the arguments changes.
@@ -184,16 +245,17 @@ fn as_argument(
     args: &[JavaType],
 ) -> Result<bool, NoMemory>
     requires { IsReady at.now.reader.q }
+    ensures { Gives at.now result (λ k a. spec.as_argument k before s.now place class args.now) }
 {
     match class {
         None => Ok(true),
-        Some(class) => match args {
-            [] => Ok(true),
-            [_, ..] => {
-                let up = super_as(alloc, at, s, class)?;
-                Ok(!before || !has_place(place, &up))
+        Some(class) => {
+            if args.is_empty() {
+                return Ok(true);
             }
-        },
+            let up = super_as(alloc, at, s, class)?;
+            Ok(is_kept(before, place, &up))
+        }
     }
 }
 
@@ -206,6 +268,7 @@ fn takes_type(
     t: &JavaType,
 ) -> Result<bool, NoMemory>
     requires { IsReady at.now.reader.q }
+    ensures { Gives at.now result (λ k a. spec.takes_alike k old.now s.now place (Some t.now)) }
 {
     let before = fits(at, old, t);
     if is_number(head_mark(s), place) {
@@ -225,6 +288,7 @@ fn takes_alike(
     t: &Option<JavaType>,
 ) -> Result<bool, NoMemory>
     requires { IsReady at.now.reader.q }
+    ensures { Gives at.now result (λ k a. spec.takes_alike k old.now s.now place t.now) }
 {
     match t {
         None => Ok(true),
@@ -243,6 +307,7 @@ fn candidate_alike(
     info: Option<&MethodInfo>,
 ) -> Result<bool, NoMemory>
     requires { IsReady at.now.reader.q }
+    ensures { Gives at.now result (λ k a. spec.candidate_alike k (call_of call.now) old.now s.now place index (option_copied info.entry)) }
 {
     match info {
         None => Ok(true),
@@ -266,6 +331,7 @@ fn is_chosen_still(
     methods: &[u32],
 ) -> Result<bool, NoMemory>
     requires { IsReady at.now.reader.q }
+    ensures { Gives at.now result (λ k a. spec.is_chosen_still k a (call_of call.now) old.now s.now place index methods.now) }
 {
     for m in methods {
         let info = candidate(at, call, *m);
@@ -288,6 +354,7 @@ fn need_each(
     mut links: Items<Link>,
 ) -> Result<Items<Link>, NoMemory>
     requires { IsReady at.now.reader.q }
+    ensures { Gives at.now result (λ k a. spec.need_each k a (call_of call.now) old.now s.now index node places.now links) }
 {
     for place in places {
         let methods = named(at, call);
@@ -307,6 +374,7 @@ fn to_candidates(
     links: Items<Link>,
 ) -> Result<Items<Link>, NoMemory>
     requires { IsReady at.now.reader.q }
+    ensures { Gives at.now result (λ k a. spec.to_candidates k a locals.now (call_of call.now) index (plain x.now) links) }
 {
     if mentions(at.reader.class, &x.ty) {
         let s = value_type(alloc, at, locals, x)?;
@@ -326,6 +394,7 @@ fn all_to_candidates(
     mut links: Items<Link>,
 ) -> Result<Items<Link>, NoMemory>
     requires { IsReady at.now.reader.q }
+    ensures { Gives at.now result (λ k a. spec.all_to_candidates k a locals.now (call_of call.now) 0 (plains xs.now) links) }
 {
     for (index, x) in xs.iter().enumerate() {
         links = to_candidates(alloc, at, locals, call, index, x, links)?;
@@ -339,7 +408,9 @@ fn put_in_param(
     node: u32,
     t: &JavaType,
     links: Items<Link>,
-) -> Result<Items<Link>, NoMemory> {
+) -> Result<Items<Link>, NoMemory>
+    ensures { IfOk result (λ r. r ≡ told.need_all (marking.places_of (members.as_seen seen.now t.now)) node kind.Overload links) }
+{
     let t = as_seen(alloc, seen, t)?;
     let places = places_of(alloc, &t)?;
     need_all(places.as_slice(), node, Kind::Overload, links)
@@ -351,7 +422,9 @@ fn put_in_params(
     node: u32,
     types: &[JavaType],
     mut links: Items<Link>,
-) -> Result<Items<Link>, NoMemory> {
+) -> Result<Items<Link>, NoMemory>
+    ensures { IfOk result (λ r. r ≡ spec.put_in_params seen.now node types.now links) }
+{
     for t in types {
         links = put_in_param(alloc, seen, node, t, links)?;
     }
@@ -366,6 +439,7 @@ fn put_in_candidate(
     links: Items<Link>,
 ) -> Result<Items<Link>, NoMemory>
     requires { IsReady at.now.reader.q }
+    ensures { Gives at.now result (λ k a. spec.put_in_candidate k (call_of call.now) (option_copied info.entry) links) }
 {
     match info {
         None => Ok(links),
@@ -384,6 +458,7 @@ fn put_in_each(
     mut links: Items<Link>,
 ) -> Result<Items<Link>, NoMemory>
     requires { IsReady at.now.reader.q }
+    ensures { Gives at.now result (λ k a. spec.put_in_each k a (call_of call.now) methods.now links) }
 {
     for m in methods {
         links = put_in_candidate(alloc, at, call, candidate(at, call, *m), links)?;
@@ -398,16 +473,19 @@ fn put_with(
     links: Items<Link>,
 ) -> Result<Items<Link>, NoMemory>
     requires { IsReady at.now.reader.q }
+    ensures { Gives at.now result (λ k a. spec.put_with (kinds.args_of call.now.marked.now) k a (call_of call.now) links) }
 {
-    match args_of(call.marked) {
-        [] => Ok(links),
-        [_, ..] => put_in_each(alloc, at, call, named(at, call), links),
+    if args_of(call.marked).is_empty() {
+        return Ok(links);
     }
+    put_in_each(alloc, at, call, named(at, call), links)
 }
 
 // ---- calls
 
-fn some_mention(class: u32, xs: &[CoreExpr]) -> bool {
+fn some_mention(class: u32, xs: &[CoreExpr]) -> bool
+    ensures { result ≡ spec.some_mention class (plains xs.now) }
+{
     for x in xs {
         if mentions(class, &x.ty) {
             return true;
@@ -416,7 +494,9 @@ fn some_mention(class: u32, xs: &[CoreExpr]) -> bool {
     false
 }
 
-fn is_concerned(at: &Place<'_>, ty: &JavaType, xs: &[CoreExpr]) -> bool {
+fn is_concerned(at: &Place<'_>, ty: &JavaType, xs: &[CoreExpr]) -> bool
+    ensures { result ≡ spec.is_concerned (where_of at.now) ty.now (plains xs.now) }
+{
     some_mention(at.reader.class, xs) || mentions(at.reader.class, ty)
 }
 
@@ -430,6 +510,7 @@ fn to_group(
     links: Items<Link>,
 ) -> Result<Items<Link>, NoMemory>
     requires { IsReady at.now.reader.q }
+    ensures { Gives at.now result (λ k a. spec.to_group several k a locals.now (call_of call.now) (plains xs.now) links) }
 {
     if several {
         let links = all_to_candidates(alloc, at, locals, call, xs, links)?;
@@ -447,6 +528,7 @@ fn arguments(
     links: Items<Link>,
 ) -> Result<Items<Link>, NoMemory>
     requires { IsReady at.now.reader.q }
+    ensures { Gives at.now result (λ k a. spec.arguments k a locals.now (call_of call.now) (plains xs.now) links) }
 {
     if is_concerned(at, call.ty, xs) {
         let several = is_several(alloc, at, call.method, call.info)?;
@@ -469,6 +551,7 @@ pub(crate) fn call(
     links: Items<Link>,
 ) -> Result<Items<Link>, NoMemory>
     requires { IsReady at.now.reader.q }
+    ensures { Gives at.now result (λ k a. spec.call k a locals.now node marked.now ty.now free method (plains xs.now) links) }
 {
     match method_info(at, method) {
         None => Ok(links),
@@ -498,6 +581,7 @@ pub(crate) fn own_call(
     links: Items<Link>,
 ) -> Result<Items<Link>, NoMemory>
     requires { IsReady at.now.reader.q }
+    ensures { Gives at.now result (λ k a. spec.own_call k a locals.now node free method (plains xs.now) links) }
 {
     let own = own_type(alloc, at);
     call(alloc, at, locals, node, &own, &own, free, method, xs, links)
@@ -514,6 +598,7 @@ pub(crate) fn super_call(
     links: Items<Link>,
 ) -> Result<Items<Link>, NoMemory>
     requires { IsReady at.now.reader.q }
+    ensures { Gives at.now result (λ k a. spec.super_call k a locals.now node method (plains xs.now) links) }
 {
     let above = super_type(alloc, at)?;
     call(
@@ -532,6 +617,7 @@ fn named_call(
     links: Items<Link>,
 ) -> Result<Items<Link>, NoMemory>
     requires { IsReady at.now.reader.q }
+    ensures { Gives at.now result (λ k a. spec.named_call k a locals.now node before method (plains xs.now) links) }
 {
     match before {
         Before::Nothing => own_call(alloc, at, locals, node, true, method, xs, links),
@@ -550,6 +636,7 @@ fn receiver(
     x: &CoreExpr,
 ) -> Result<JavaType, NoMemory>
     requires { IsReady at.now.reader.q }
+    ensures { Gives at.now result (λ k a. spec.receiver k a locals.now (plain x.now)) }
 {
     if mentions(at.reader.class, &x.ty) {
         return value_type(alloc, at, locals, x);
@@ -570,6 +657,7 @@ pub(crate) fn value_call(
     links: Items<Link>,
 ) -> Result<Items<Link>, NoMemory>
     requires { IsReady at.now.reader.q }
+    ensures { Gives at.now result (λ k a. spec.value_call k a locals.now node (plain x.now) free method (plains xs.now) links) }
 {
     let marked = receiver(alloc, at, locals, x)?;
     let links = method_use(at, &marked, method, node, links)?;
@@ -591,6 +679,7 @@ pub(crate) fn static_call(
     links: Items<Link>,
 ) -> Result<Items<Link>, NoMemory>
     requires { IsReady at.now.reader.q }
+    ensures { Gives at.now result (λ k a. spec.static_call k a locals.now node before (maybe (option_map plain x.now)) method (plains xs.now) links) }
 {
     match x {
         None => named_call(alloc, at, locals, node, before, method, xs, links),

@@ -1,6 +1,16 @@
 //! Methods beside those that they override, are overloaded with or hide.
 
+ghost use Rattle.std.specs.Prelude.{◌≡◌, ◌==◌, ◌&&◌, ◌∷◌, ◌++◌, [], filter, map, not, option_and_then, if◌then◌else◌, IfOk, Some};
+ghost use Rattle.std.specs.Option.{option_copied};
+ghost use Rattle.java_core.specs.View.{method_plain, param_plain};
+ghost use Rattle.type_kinds.specs.Kinds as kinds;
 ghost use Rattle.type_facts.specs.Facts.{IsReady};
+ghost use Rattle.marked_types.specs.Marked as marking;
+ghost use Rattle.marked_types.specs.Table as table;
+ghost use Rattle.member_uses.specs.Targets as targets;
+ghost use Rattle.extract_constraints.specs.Arguments as seeing;
+ghost use Rattle.extract_constraints.specs.Declarations as spec;
+ghost use Rattle.extract_constraints.specs.Told.{Gives, Tells, where_of};
 
 use crate::flows::{all_equal, equal, equal_arguments, new_fits};
 use crate::groups::{has_double, have_one_erasure, is_several};
@@ -18,21 +28,27 @@ use member_uses::superclass;
 use std::alloc::Global;
 use type_kinds::kinds::{args_of, class_number};
 
-fn or_seen<'a>(marked: Option<&'a JavaType>, seen: Option<&'a JavaType>) -> Option<&'a JavaType> {
+fn or_seen<'a>(marked: Option<&'a JavaType>, seen: Option<&'a JavaType>) -> Option<&'a JavaType>
+    ensures { option_copied result ≡ seeing.or_seen (option_copied marked.entry) (option_copied seen.entry) }
+{
     match marked {
         Some(t) => Some(t),
         None => seen,
     }
 }
 
-fn param_in(info: Option<&MethodInfo>, index: usize) -> Option<&JavaType> {
+fn param_in(info: Option<&MethodInfo>, index: usize) -> Option<&JavaType>
+    ensures { option_copied result ≡ spec.param_in (option_copied info.entry) index }
+{
     match info {
         None => None,
         Some(info) => info.params.get(index),
     }
 }
 
-fn result_in(info: Option<&MethodInfo>) -> Option<&JavaType> {
+fn result_in(info: Option<&MethodInfo>) -> Option<&JavaType>
+    ensures { option_copied result ≡ table.result_of (option_copied info.entry) }
+{
     match info {
         None => None,
         Some(info) => match &info.result {
@@ -43,7 +59,9 @@ fn result_in(info: Option<&MethodInfo>) -> Option<&JavaType> {
 }
 
 /// The declared type of a parameter, by its place from 0, marked where a user declares it.
-fn param_declared<'a>(at: &Place<'a>, m: u32, index: usize) -> Option<&'a JavaType> {
+fn param_declared<'a>(at: &Place<'a>, m: u32, index: usize) -> Option<&'a JavaType>
+    ensures { option_copied result ≡ spec.param_declared (where_of at.now) m index }
+{
     or_seen(
         at.reader.marks.param(m, index),
         param_in(method_info(at, m), index),
@@ -51,8 +69,17 @@ fn param_declared<'a>(at: &Place<'a>, m: u32, index: usize) -> Option<&'a JavaTy
 }
 
 /// The declared result, marked where a user declares it.
-fn result_declared<'a>(at: &Place<'a>, m: u32) -> Option<&'a JavaType> {
+fn result_declared<'a>(at: &Place<'a>, m: u32) -> Option<&'a JavaType>
+    ensures { option_copied result ≡ spec.result_declared (where_of at.now) m }
+{
     or_seen(at.reader.marks.result(m), result_in(method_info(at, m)))
+}
+
+// A number that is not another one.
+fn is_other(m: u32, j: u32) -> bool
+    ensures { result ≡ not (m == j) }
+{
+    m != j
 }
 
 // ---- static methods that it hides (JLS 8.4.8.2)
@@ -64,6 +91,7 @@ fn hides_info(
     other: &MethodInfo,
 ) -> Result<bool, NoMemory>
     requires { IsReady at.now.reader.q }
+    ensures { Gives at.now result (λ k a. spec.hides_info k info.now (Some other.now)) }
 {
     if is_static(other) {
         return have_one_erasure(alloc, at, info, other);
@@ -73,6 +101,7 @@ fn hides_info(
 
 fn hides(alloc: Global, at: &Place<'_>, info: &MethodInfo, m: u32) -> Result<bool, NoMemory>
     requires { IsReady at.now.reader.q }
+    ensures { Gives at.now result (λ k a. spec.hides k a info.now m) }
 {
     match method_info(at, m) {
         None => Ok(false),
@@ -80,7 +109,9 @@ fn hides(alloc: Global, at: &Place<'_>, info: &MethodInfo, m: u32) -> Result<boo
     }
 }
 
-fn class_above(alloc: Global, at: &Place<'_>) -> Result<Option<u32>, NoMemory> {
+fn class_above(alloc: Global, at: &Place<'_>) -> Result<Option<u32>, NoMemory>
+    ensures { IfOk result (λ r. r ≡ option_and_then kinds.class_number (targets.superclass at.now.reader.q.world.now at.now.owner)) }
+{
     match superclass(alloc, at.reader.q.world, at.owner)? {
         None => Ok(None),
         Some(t) => Ok(class_number(&t)),
@@ -89,11 +120,22 @@ fn class_above(alloc: Global, at: &Place<'_>) -> Result<Option<u32>, NoMemory> {
 
 fn named_in<'a>(at: &Place<'a>, class: Option<u32>, name: Name, arity: usize) -> &'a [u32]
     requires { IsReady at.now.reader.q }
+    ensures { Tells at.now result.now (λ k a. targets.named_in k.facts class name arity) }
 {
     match class {
         None => &[],
         Some(class) => methods_named(at, class, name, arity),
     }
+}
+
+fn put_if(wanted: bool, m: u32, found: Items<u32>) -> Result<Items<u32>, NoMemory>
+    ensures { IfOk result (λ ms. ms ≡ (if wanted then found ++ (m ∷ []) else found)) }
+{
+    let mut found = found;
+    if wanted {
+        found.push(m)?;
+    }
+    Ok(found)
 }
 
 fn hidden_among(
@@ -103,12 +145,12 @@ fn hidden_among(
     methods: &[u32],
 ) -> Result<Items<u32>, NoMemory>
     requires { IsReady at.now.reader.q }
+    ensures { Gives at.now result (λ k a. filter (spec.hides k a info.now) methods.now) }
 {
     let mut hidden = Items::new(alloc);
     for m in methods {
-        if hides(alloc, at, info, *m)? {
-            hidden.push(*m)?;
-        }
+        let wanted = hides(alloc, at, info, *m)?;
+        hidden = put_if(wanted, *m, hidden)?;
     }
     Ok(hidden)
 }
@@ -116,6 +158,7 @@ fn hidden_among(
 /// The static methods that a static method hides.
 fn hidden_by(alloc: Global, at: &Place<'_>, info: &MethodInfo) -> Result<Items<u32>, NoMemory>
     requires { IsReady at.now.reader.q }
+    ensures { Gives at.now result (λ k a. spec.hidden_by k a info.now) }
 {
     if is_static(info) {
         let class = class_above(alloc, at)?;
@@ -132,7 +175,9 @@ fn hidden_param(
     other: Option<&JavaType>,
     node: u32,
     links: Items<Link>,
-) -> Result<Items<Link>, NoMemory> {
+) -> Result<Items<Link>, NoMemory>
+    ensures { IfOk result (λ r. r ≡ spec.hidden_param t.now (option_copied other.entry) node links) }
+{
     match other {
         None => Ok(links),
         Some(u) => {
@@ -150,7 +195,9 @@ fn hidden_params(
     node: u32,
     hidden: &[u32],
     mut links: Items<Link>,
-) -> Result<Items<Link>, NoMemory> {
+) -> Result<Items<Link>, NoMemory>
+    ensures { IfOk result (λ r. r ≡ spec.hidden_params (where_of at.now) t.now index node hidden.now links) }
+{
     for m in hidden {
         links = hidden_param(t, param_declared(at, *m, index), node, links)?;
     }
@@ -162,7 +209,9 @@ fn same_param(
     other: Option<&JavaType>,
     node: u32,
     links: Items<Link>,
-) -> Result<Items<Link>, NoMemory> {
+) -> Result<Items<Link>, NoMemory>
+    ensures { IfOk result (λ r. r ≡ spec.same_param t.now (option_copied other.entry) node links) }
+{
     match other {
         None => Ok(links),
         Some(u) => {
@@ -170,6 +219,23 @@ fn same_param(
             all_equal(args_of(t), args_of(u), node, links)
         }
     }
+}
+
+fn unless_first(
+    other: bool,
+    at: &Place<'_>,
+    first: u32,
+    t: &JavaType,
+    index: usize,
+    node: u32,
+    links: Items<Link>,
+) -> Result<Items<Link>, NoMemory>
+    ensures { IfOk result (λ r. r ≡ spec.unless_first (not other) (where_of at.now) first t.now index node links) }
+{
+    if other {
+        return same_param(t, param_declared(at, first, index), node, links);
+    }
+    Ok(links)
 }
 
 /// A parameter stays equal to the same parameter of the first method of the family.
@@ -181,15 +247,12 @@ fn family_param(
     node: u32,
     family: &[u32],
     links: Items<Link>,
-) -> Result<Items<Link>, NoMemory> {
-    match family {
-        [] => Ok(links),
-        [first, ..] => {
-            if *first == m {
-                return Ok(links);
-            }
-            same_param(t, param_declared(at, *first, index), node, links)
-        }
+) -> Result<Items<Link>, NoMemory>
+    ensures { IfOk result (λ r. r ≡ spec.family_param (where_of at.now) m t.now index node family.now links) }
+{
+    match family.first() {
+        None => Ok(links),
+        Some(first) => unless_first(is_other(*first, m), at, *first, t, index, node, links),
     }
 }
 
@@ -198,7 +261,9 @@ fn need_all_if(
     places: &[u32],
     node: u32,
     links: Items<Link>,
-) -> Result<Items<Link>, NoMemory> {
+) -> Result<Items<Link>, NoMemory>
+    ensures { IfOk result (λ r. r ≡ spec.need_all_if several places.now node links) }
+{
     if several {
         return need_all(places, node, Kind::Overload, links);
     }
@@ -210,7 +275,9 @@ fn need_maybe_if(
     place: Option<u32>,
     node: u32,
     links: Items<Link>,
-) -> Result<Items<Link>, NoMemory> {
+) -> Result<Items<Link>, NoMemory>
+    ensures { IfOk result (λ r. r ≡ spec.need_maybe_if double place node links) }
+{
     if double {
         return need_maybe(place, node, Kind::Overload, links);
     }
@@ -228,6 +295,7 @@ fn param_in_group(
     links: Items<Link>,
 ) -> Result<Items<Link>, NoMemory>
     requires { IsReady at.now.reader.q }
+    ensures { Gives at.now result (λ k a. spec.param_in_group k a m info.now t.now node links) }
 {
     let places = places_of(alloc, t)?;
     let several = is_several(alloc, at, m, info)?;
@@ -248,16 +316,15 @@ fn param_with(
     links: Items<Link>,
 ) -> Result<Items<Link>, NoMemory>
     requires { IsReady at.now.reader.q }
+    ensures { Gives at.now result (λ k a. spec.param_with (marking.places_of t.now) k a m info.now hidden.now t.now index node links) }
 {
     let places = places_of(alloc, t)?;
-    match places.as_slice() {
-        [] => Ok(links),
-        [_, ..] => {
-            let links = param_in_group(alloc, at, m, info, t, node, links)?;
-            let links = family_param(at, m, t, index, node, family(at, m), links)?;
-            hidden_params(at, t, index, node, hidden, links)
-        }
+    if places.as_slice().is_empty() {
+        return Ok(links);
     }
+    let grouped = param_in_group(alloc, at, m, info, t, node, links)?;
+    let tied = family_param(at, m, t, index, node, family(at, m), grouped)?;
+    hidden_params(at, t, index, node, hidden, tied)
 }
 
 fn param(
@@ -271,6 +338,7 @@ fn param(
     links: Items<Link>,
 ) -> Result<Items<Link>, NoMemory>
     requires { IsReady at.now.reader.q }
+    ensures { Gives at.now result (λ k a. spec.param_of (table.param_mark a.reading.marks m index) k a m info.now hidden.now index x.now.node.id links) }
 {
     match at.reader.marks.param(m, index) {
         None => Ok(links),
@@ -288,6 +356,7 @@ fn params(
     mut links: Items<Link>,
 ) -> Result<Items<Link>, NoMemory>
     requires { IsReady at.now.reader.q }
+    ensures { Gives at.now result (λ k a. spec.params k a m info.now hidden.now 0 (map param_plain xs.now) links) }
 {
     for (index, x) in xs.iter().enumerate() {
         links = param(alloc, at, m, info, hidden, index, x, links)?;
@@ -304,12 +373,11 @@ fn overridden_among(
     methods: &[u32],
 ) -> Result<Items<u32>, NoMemory>
     requires { IsReady at.now.reader.q }
+    ensures { Gives at.now result (λ k a. filter (k.ties.overrides m) methods.now) }
 {
     let mut found = Items::new(alloc);
     for j in methods {
-        if overrides(at, m, *j) {
-            found.push(*j)?;
-        }
+        found = put_if(overrides(at, m, *j), *j, found)?;
     }
     Ok(found)
 }
@@ -317,19 +385,36 @@ fn overridden_among(
 /// The methods that a method overrides.
 fn overridden_by(alloc: Global, at: &Place<'_>, m: u32) -> Result<Items<u32>, NoMemory>
     requires { IsReady at.now.reader.q }
+    ensures { Gives at.now result (λ k a. spec.overridden_by k m) }
 {
     overridden_among(alloc, at, m, family(at, m))
 }
 
+/// Whether one method overrides another one, and not the other way round.
+fn overrides_alone(at: &Place<'_>, m: u32, j: u32) -> bool
+    requires { IsReady at.now.reader.q }
+    ensures { Tells at.now result (λ k a. k.ties.overrides m j && not (k.ties.overrides j m)) }
+{
+    if overrides(at, m, j) {
+        return !overrides(at, j, m);
+    }
+    false
+}
+
 fn stands_before(at: &Place<'_>, m: u32, j: u32) -> bool
     requires { IsReady at.now.reader.q }
+    ensures { Tells at.now result (λ k a. not (m == j) && (k.ties.overrides m j && not (k.ties.overrides j m))) }
 {
-    m != j && overrides(at, m, j) && !overrides(at, j, m)
+    if is_other(m, j) {
+        return overrides_alone(at, m, j);
+    }
+    false
 }
 
 /// Whether one of these methods stands between a method and one of them that it overrides. Of two that override each other none stands before the other.
 fn is_behind(at: &Place<'_>, overridden: &[u32], j: u32) -> bool
     requires { IsReady at.now.reader.q }
+    ensures { Tells at.now result (λ k a. spec.is_behind k overridden.now j) }
 {
     for m in overridden {
         if stands_before(at, *m, j) {
@@ -348,6 +433,7 @@ fn result_head(
     links: Items<Link>,
 ) -> Result<Items<Link>, NoMemory>
     requires { IsReady at.now.reader.q }
+    ensures { Gives at.now result (λ k a. spec.result_head k t.now u.now (marking.head_mark t.now) (marking.head_mark u.now) node links) }
 {
     match head_mark(t) {
         None => equal_arguments(alloc, at, t, u, node, links),
@@ -371,6 +457,7 @@ fn result_for(
     links: Items<Link>,
 ) -> Result<Items<Link>, NoMemory>
     requires { IsReady at.now.reader.q }
+    ensures { Gives at.now result (λ k a. spec.result_for k t.now (option_copied other.entry) node links) }
 {
     match other {
         None => Ok(links),
@@ -388,6 +475,7 @@ fn result_unless(
     links: Items<Link>,
 ) -> Result<Items<Link>, NoMemory>
     requires { IsReady at.now.reader.q }
+    ensures { Gives at.now result (λ k a. spec.result_unless behind k a t.now j node links) }
 {
     if behind {
         return Ok(links);
@@ -404,6 +492,7 @@ fn for_overridden(
     mut links: Items<Link>,
 ) -> Result<Items<Link>, NoMemory>
     requires { IsReady at.now.reader.q }
+    ensures { Gives at.now result (λ k a. spec.for_overridden k a t.now node methods.now methods.now links) }
 {
     for j in methods {
         let behind = is_behind(at, methods, *j);
@@ -421,6 +510,7 @@ fn for_hidden(
     mut links: Items<Link>,
 ) -> Result<Items<Link>, NoMemory>
     requires { IsReady at.now.reader.q }
+    ensures { Gives at.now result (λ k a. spec.for_hidden k a t.now node hidden.now links) }
 {
     for j in hidden {
         links = result_for(alloc, at, t, result_declared(at, *j), node, links)?;
@@ -438,16 +528,15 @@ fn result_with(
     links: Items<Link>,
 ) -> Result<Items<Link>, NoMemory>
     requires { IsReady at.now.reader.q }
+    ensures { Gives at.now result (λ k a. spec.result_with (marking.places_of t.now) k a m hidden.now t.now node links) }
 {
     let places = places_of(alloc, t)?;
-    match places.as_slice() {
-        [] => Ok(links),
-        [_, ..] => {
-            let overridden = overridden_by(alloc, at, m)?;
-            let links = for_overridden(alloc, at, t, node, overridden.as_slice(), links)?;
-            for_hidden(alloc, at, t, node, hidden, links)
-        }
+    if places.as_slice().is_empty() {
+        return Ok(links);
     }
+    let overridden = overridden_by(alloc, at, m)?;
+    let placed = for_overridden(alloc, at, t, node, overridden.as_slice(), links)?;
+    for_hidden(alloc, at, t, node, hidden, placed)
 }
 
 fn result(
@@ -459,6 +548,7 @@ fn result(
     links: Items<Link>,
 ) -> Result<Items<Link>, NoMemory>
     requires { IsReady at.now.reader.q }
+    ensures { Gives at.now result (λ k a. spec.result (table.result_mark a.reading.marks m) k a m hidden.now node links) }
 {
     match at.reader.marks.result(m) {
         None => Ok(links),
@@ -477,6 +567,7 @@ fn declared(
     links: Items<Link>,
 ) -> Result<Items<Link>, NoMemory>
     requires { IsReady at.now.reader.q }
+    ensures { Gives at.now result (λ k a. spec.declared k a (method_plain method.now) info.now hidden.now links) }
 {
     let links = result(alloc, at, method.method, hidden, method.node.id, links)?;
     params(
@@ -498,6 +589,7 @@ pub(crate) fn declaration(
     links: Items<Link>,
 ) -> Result<Items<Link>, NoMemory>
     requires { IsReady at.now.reader.q }
+    ensures { Gives at.now result (λ k a. spec.declaration k a (method_plain method.now) links) }
 {
     match method_info(at, method.method) {
         None => Ok(links),

@@ -1,6 +1,14 @@
 //! The constraints on expressions.
 
+ghost use Rattle.std.specs.Prelude.{false};
+ghost use Rattle.std.specs.Option.{option_map};
+ghost use Rattle.java_core.specs.View.{maybe, plain, plains, written as written_plain};
+ghost use Rattle.marked_types.specs.Marked as marks;
 ghost use Rattle.type_facts.specs.Facts.{IsReady};
+ghost use Rattle.extract_constraints.specs.Arguments as calls;
+ghost use Rattle.extract_constraints.specs.Flows.{class_of};
+ghost use Rattle.extract_constraints.specs.Links as spec;
+ghost use Rattle.extract_constraints.specs.Told.{Gives};
 
 use crate::arguments::{call, static_call, super_call, value_call};
 use crate::flows::{arms, cast, initialise, value_to};
@@ -23,6 +31,7 @@ fn assigned(
     links: Items<Link>,
 ) -> Result<Items<Link>, NoMemory>
     requires { IsReady at.now.reader.q }
+    ensures { Gives at.now result (λ k a. spec.assigned k a locals.now (plain to.now) (plain from.now) links) }
 {
     if mentions(at.reader.class, &from.ty) {
         let t = value_type(alloc, at, locals, to)?;
@@ -42,6 +51,7 @@ fn converted(
     links: Items<Link>,
 ) -> Result<Items<Link>, NoMemory>
     requires { IsReady at.now.reader.q }
+    ensures { Gives at.now result (λ k a. spec.converted k a locals.now node (written_plain written.now) (plain x.now) links) }
 {
     if mentions(at.reader.class, &x.ty) {
         let s = value_type(alloc, at, locals, x)?;
@@ -62,6 +72,7 @@ fn created(
     links: Items<Link>,
 ) -> Result<Items<Link>, NoMemory>
     requires { IsReady at.now.reader.q }
+    ensures { Gives at.now result (λ k a. calls.call k a locals.now e.now.node.id (marks.marked_inside (class_of a) (written_plain written.now)) e.now.ty false constructor (plains args.now) links) }
 {
     let marked = marked_inside(alloc, at.reader.class, written)?;
     call(
@@ -88,6 +99,7 @@ pub(crate) fn value(
     links: Items<Link>,
 ) -> Result<Items<Link>, NoMemory>
     requires { IsReady at.now.reader.q }
+    ensures { Gives at.now result (λ k a. spec.value k a locals.now (plain e.now) links) }
 {
     match &e.form {
         CoreForm::Paren(of) => value(alloc, at, locals, of.get(), links),
@@ -211,6 +223,7 @@ pub(crate) fn values(
     mut links: Items<Link>,
 ) -> Result<Items<Link>, NoMemory>
     requires { IsReady at.now.reader.q }
+    ensures { Gives at.now result (λ k a. spec.values k a locals.now (plains xs.now) links) }
 {
     for x in xs {
         links = value(alloc, at, locals, x, links)?;
@@ -227,6 +240,7 @@ fn maybe_value(
     links: Items<Link>,
 ) -> Result<Items<Link>, NoMemory>
     requires { IsReady at.now.reader.q }
+    ensures { Gives at.now result (λ k a. spec.maybe_value k a locals.now (maybe (option_map plain x.now)) links) }
 {
     match x {
         None => Ok(links),
@@ -243,6 +257,7 @@ pub(crate) fn optional(
     links: Items<Link>,
 ) -> Result<Items<Link>, NoMemory>
     requires { IsReady at.now.reader.q }
+    ensures { Gives at.now result (λ k a. spec.optional k a locals.now (option_map plain x.now) links) }
 {
     match x {
         None => Ok(links),

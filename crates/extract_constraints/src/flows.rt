@@ -1,6 +1,12 @@
 //! Values that go to what has a declared type, and arms of conditionals.
 
+ghost use Rattle.std.specs.Prelude.{◌≡◌, ◌==◌, ◌||◌, IfOk, Some, true, slice_get};
+ghost use Rattle.std.specs.Option.{option_copied};
+ghost use Rattle.java_core.specs.View.{form_plain, plain, plains};
 ghost use Rattle.type_facts.specs.Facts.{IsReady};
+ghost use Rattle.marked_types.specs.Marked as marking;
+ghost use Rattle.extract_constraints.specs.Flows as spec;
+ghost use Rattle.extract_constraints.specs.Told.{Gives};
 
 use crate::place::{Place, fits, need, need_maybe, need_unless, step, super_as, value_type};
 use class_world::{JavaType, World, copied};
@@ -19,7 +25,9 @@ fn tied(
     node: u32,
     kind: Kind,
     links: Items<Link>,
-) -> Result<Items<Link>, NoMemory> {
+) -> Result<Items<Link>, NoMemory>
+    ensures { IfOk result (λ ls. ls ≡ spec.tied (place == other) place other node kind links) }
+{
     if place == other {
         return Ok(links);
     }
@@ -34,7 +42,9 @@ pub(crate) fn equal(
     node: u32,
     kind: Kind,
     links: Items<Link>,
-) -> Result<Items<Link>, NoMemory> {
+) -> Result<Items<Link>, NoMemory>
+    ensures { IfOk result (λ ls. ls ≡ spec.equal place other node kind links) }
+{
     match place {
         Some(p) => match other {
             Some(q) => tied(p, q, node, kind, links),
@@ -50,7 +60,9 @@ pub(crate) fn all_equal(
     ys: &[JavaType],
     node: u32,
     mut links: Items<Link>,
-) -> Result<Items<Link>, NoMemory> {
+) -> Result<Items<Link>, NoMemory>
+    ensures { IfOk result (λ ls. ls ≡ spec.all_equal xs.now ys.now node links) }
+{
     for (x, y) in xs.iter().zip(ys) {
         links = equal(own_mark(x), own_mark(y), node, Kind::Argument, links)?;
     }
@@ -62,7 +74,9 @@ fn args_equal(
     ys: &[JavaType],
     node: u32,
     links: Items<Link>,
-) -> Result<Items<Link>, NoMemory> {
+) -> Result<Items<Link>, NoMemory>
+    ensures { IfOk result (λ ls. ls ≡ spec.args_equal t.now ys.now node links) }
+{
     match t {
         None => Ok(links),
         Some(t) => all_equal(args_of(t), ys, node, links),
@@ -79,6 +93,7 @@ fn arguments_at(
     links: Items<Link>,
 ) -> Result<Items<Link>, NoMemory>
     requires { IsReady at.now.reader.q }
+    ensures { Gives at.now result (λ k a. spec.arguments_at k s.now class ys.now node links) }
 {
     match class {
         None => Ok(links),
@@ -102,6 +117,7 @@ pub(crate) fn equal_arguments(
     links: Items<Link>,
 ) -> Result<Items<Link>, NoMemory>
     requires { IsReady at.now.reader.q }
+    ensures { Gives at.now result (λ k a. spec.equal_arguments k s.now t.now node links) }
 {
     arguments_at(alloc, at, s, class_number(t), args_of(t), node, links)
 }
@@ -116,6 +132,7 @@ pub(crate) fn new_fits(
     t: &JavaType,
 ) -> Result<bool, NoMemory>
     requires { IsReady at.now.reader.q }
+    ensures { Gives at.now result (λ k a. k.facts.fits (marking.raised s.now) t.now) }
 {
     let new = raised(alloc, s)?;
     Ok(fits(at, &new, t))
@@ -132,6 +149,7 @@ fn to_type(
     links: Items<Link>,
 ) -> Result<Items<Link>, NoMemory>
     requires { IsReady at.now.reader.q }
+    ensures { Gives at.now result (λ k a. spec.to_type k place s.now t.now to node links) }
 {
     match to {
         Some(to) => step(place, to, node, Kind::Assign, links),
@@ -152,6 +170,7 @@ pub(crate) fn flow(
     links: Items<Link>,
 ) -> Result<Items<Link>, NoMemory>
     requires { IsReady at.now.reader.q }
+    ensures { Gives at.now result (λ k a. spec.flow k s.now t.now node links) }
 {
     match head_mark(s) {
         Some(place) => to_type(alloc, at, place, s, t, head_mark(t), node, links),
@@ -160,6 +179,7 @@ pub(crate) fn flow(
 }
 
 /// The value of an expression goes to what has this type.
+#[tactic(auto, using(java_core::proofs::Views::plain_at))]
 pub(crate) fn value_to(
     alloc: Global,
     at: &Place<'_>,
@@ -169,6 +189,7 @@ pub(crate) fn value_to(
     links: Items<Link>,
 ) -> Result<Items<Link>, NoMemory>
     requires { IsReady at.now.reader.q }
+    ensures { Gives at.now result (λ k a. spec.value_to k a locals.now (plain x.now) t.now links) }
 {
     if mentions(at.reader.class, &x.ty) {
         let s = value_type(alloc, at, locals, x)?;
@@ -186,6 +207,7 @@ pub(crate) fn value_to_maybe(
     links: Items<Link>,
 ) -> Result<Items<Link>, NoMemory>
     requires { IsReady at.now.reader.q }
+    ensures { Gives at.now result (λ k a. spec.value_to_maybe k a locals.now (plain x.now) (option_copied t.entry) links) }
 {
     match t {
         None => Ok(links),
@@ -205,6 +227,7 @@ pub(crate) fn initialise(
     links: Items<Link>,
 ) -> Result<Items<Link>, NoMemory>
     requires { IsReady at.now.reader.q }
+    ensures { Gives at.now result (λ k a. spec.initialise k a locals.now (plain x.now) (option_copied t.entry) links) }
 {
     match &x.form {
         CoreForm::Filled(items) => match t {
@@ -225,6 +248,7 @@ fn initialise_all(
     mut links: Items<Link>,
 ) -> Result<Items<Link>, NoMemory>
     requires { IsReady at.now.reader.q }
+    ensures { Gives at.now result (λ k a. spec.initialise_all k a locals.now (plains items.now) (option_copied t.entry) links) }
 {
     for item in items {
         links = initialise(alloc, at, locals, item, t, links)?;
@@ -232,11 +256,20 @@ fn initialise_all(
     Ok(links)
 }
 
-fn is_filled(x: &CoreExpr) -> bool {
-    match &x.form {
+fn is_filled_form(form: &CoreForm) -> bool
+    ensures { result ≡ spec.is_filled_form (form_plain form.now) }
+{
+    match form {
         CoreForm::Filled(_) => true,
         _ => false,
     }
+}
+
+#[tactic(auto, using(java_core::proofs::Views::plain_at))]
+fn is_filled(x: &CoreExpr) -> bool
+    ensures { result ≡ spec.is_filled (plain x.now) }
+{
+    is_filled_form(&x.form)
 }
 
 fn need_if_filled(
@@ -244,7 +277,9 @@ fn need_if_filled(
     t: &JavaType,
     node: u32,
     links: Items<Link>,
-) -> Result<Items<Link>, NoMemory> {
+) -> Result<Items<Link>, NoMemory>
+    ensures { IfOk result (λ ls. ls ≡ spec.need_if_filled filled t.now node links) }
+{
     if filled {
         return need_maybe(head_mark(t), node, Kind::Assign, links);
     }
@@ -252,6 +287,7 @@ fn need_if_filled(
 }
 
 /// The value of a declared variable: items in braces make an array of its declared type, which then stays.
+#[tactic(auto, using(java_core::proofs::Views::plain_at))]
 pub(crate) fn declare(
     alloc: Global,
     at: &Place<'_>,
@@ -261,6 +297,7 @@ pub(crate) fn declare(
     links: Items<Link>,
 ) -> Result<Items<Link>, NoMemory>
     requires { IsReady at.now.reader.q }
+    ensures { Gives at.now result (λ k a. spec.declare k a locals.now (plain x.now) t.now links) }
 {
     let links = need_if_filled(is_filled(x), t, x.node.id, links)?;
     initialise(alloc, at, locals, x, Some(t), links)
@@ -273,7 +310,9 @@ fn to_inner(
     inner: Option<u32>,
     node: u32,
     links: Items<Link>,
-) -> Result<Items<Link>, NoMemory> {
+) -> Result<Items<Link>, NoMemory>
+    ensures { IfOk result (λ ls. ls ≡ spec.to_inner place inner node links) }
+{
     match inner {
         None => Ok(links),
         Some(inner) => step(place, inner, node, Kind::Arm, links),
@@ -292,6 +331,7 @@ fn lone_arm(
     links: Items<Link>,
 ) -> Result<Items<Link>, NoMemory>
     requires { IsReady at.now.reader.q }
+    ensures { Gives at.now result (λ k a. spec.lone_arm k place s.now t.now inner node links) }
 {
     if new_fits(alloc, at, s, t)? {
         return Ok(links);
@@ -314,6 +354,7 @@ fn arm_heads(
     links: Items<Link>,
 ) -> Result<Items<Link>, NoMemory>
     requires { IsReady at.now.reader.q }
+    ensures { Gives at.now result (λ k a. spec.arm_heads k first second s.now t.now inner node links) }
 {
     match first {
         Some(p) => match second {
@@ -330,10 +371,13 @@ fn arm_heads(
     }
 }
 
-fn inner_place(of_class: bool, node: u32) -> Option<u32> {
+fn inner_place(of_class: bool, node: u32) -> Option<u32>
+    ensures { result ≡ spec.inner_place of_class node }
+{
     if of_class { Some(node) } else { None }
 }
 
+#[tactic(auto, using(java_core::proofs::Views::plain_at))]
 fn known_arms(
     alloc: Global,
     at: &Place<'_>,
@@ -344,21 +388,28 @@ fn known_arms(
     links: Items<Link>,
 ) -> Result<Items<Link>, NoMemory>
     requires { IsReady at.now.reader.q }
+    ensures { Gives at.now result (λ k a. spec.arms_if true k a locals.now (plain e.now) (plain yes.now) (plain no.now) links) }
 {
     let first = value_type(alloc, at, locals, yes)?;
     let second = value_type(alloc, at, locals, no)?;
     let whole = value_type(alloc, at, locals, e)?;
     let node = e.node.id;
     let inner = inner_place(is_number(head_class(&e.ty), at.reader.class), node);
-    let marks = (head_mark(&first), head_mark(&second));
-    let links = arm_heads(
-        alloc, at, marks.0, marks.1, &yes.ty, &no.ty, inner, node, links,
-    )?;
+    let one = head_mark(&first);
+    let other = head_mark(&second);
+    let links = arm_heads(alloc, at, one, other, &yes.ty, &no.ty, inner, node, links)?;
     let links = equal_arguments(alloc, at, &first, &whole, yes.node.id, links)?;
     equal_arguments(alloc, at, &second, &whole, no.node.id, links)
 }
 
+fn either_mentions(class: u32, s: &JavaType, t: &JavaType) -> bool
+    ensures { result ≡ (marking.mentions class s.now || marking.mentions class t.now) }
+{
+    mentions(class, s) || mentions(class, t)
+}
+
 /// The arms of a conditional.
+#[tactic(auto, using(java_core::proofs::Views::plain_at))]
 pub(crate) fn arms(
     alloc: Global,
     at: &Place<'_>,
@@ -369,9 +420,9 @@ pub(crate) fn arms(
     links: Items<Link>,
 ) -> Result<Items<Link>, NoMemory>
     requires { IsReady at.now.reader.q }
+    ensures { Gives at.now result (λ k a. spec.arms k a locals.now (plain e.now) (plain yes.now) (plain no.now) links) }
 {
-    let class = at.reader.class;
-    if mentions(class, &yes.ty) || mentions(class, &no.ty) {
+    if either_mentions(at.reader.class, &yes.ty, &no.ty) {
         return known_arms(alloc, at, locals, e, yes, no, links);
     }
     Ok(links)
@@ -379,7 +430,9 @@ pub(crate) fn arms(
 
 // ---- casts (JLS 15.16)
 
-fn is_generic(w: &World, class: u32) -> bool {
+fn is_generic(w: &World, class: u32) -> bool
+    ensures { result ≡ spec.is_generic_info (slice_get w.now.types class) }
+{
     match w.types.get(class as usize) {
         None => false,
         Some(info) => 0 < info.params,
@@ -391,7 +444,9 @@ fn both_args(
     t: &Option<JavaType>,
     node: u32,
     links: Items<Link>,
-) -> Result<Items<Link>, NoMemory> {
+) -> Result<Items<Link>, NoMemory>
+    ensures { IfOk result (λ ls. ls ≡ spec.both_args s.now t.now node links) }
+{
     match s {
         None => Ok(links),
         Some(s) => match t {
@@ -412,6 +467,7 @@ fn equal_above(
     links: Items<Link>,
 ) -> Result<Items<Link>, NoMemory>
     requires { IsReady at.now.reader.q }
+    ensures { Gives at.now result (λ k a. spec.equal_above (spec.is_generic_info (slice_get (spec.world a).types class)) k s.now t.now class node links) }
 {
     if is_generic(at.reader.q.world, class) {
         let one = super_as(alloc, at, s, class)?;
@@ -431,6 +487,7 @@ fn equal_below(
     mut links: Items<Link>,
 ) -> Result<Items<Link>, NoMemory>
     requires { IsReady at.now.reader.q }
+    ensures { Gives at.now result (λ k a. spec.equal_below k a s.now t.now count node links) }
 {
     for class in 0..count {
         links = equal_above(alloc, at, s, t, class, node, links)?;
@@ -449,6 +506,7 @@ fn cast_of(
     links: Items<Link>,
 ) -> Result<Items<Link>, NoMemory>
     requires { IsReady at.now.reader.q }
+    ensures { Gives at.now result (λ k a. spec.cast_of place k a s.now t.now node operand links) }
 {
     match place {
         Some(place) => need(place, node, Kind::Argument, links),
@@ -472,6 +530,7 @@ pub(crate) fn cast(
     links: Items<Link>,
 ) -> Result<Items<Link>, NoMemory>
     requires { IsReady at.now.reader.q }
+    ensures { Gives at.now result (λ k a. spec.cast k a s.now t.now node operand links) }
 {
     match args_of(t) {
         [] => Ok(links),
@@ -481,7 +540,9 @@ pub(crate) fn cast(
 
 // ---- loops over a value (JLS 14.14.2)
 
-fn first_arg(alloc: Global, t: &Option<JavaType>) -> Result<Option<JavaType>, NoMemory> {
+fn first_arg(alloc: Global, t: &Option<JavaType>) -> Result<Option<JavaType>, NoMemory>
+    ensures { IfOk result (λ r. r ≡ spec.first_arg t.now) }
+{
     match t {
         None => Ok(None),
         Some(t) => match args_of(t).get(0) {
@@ -493,6 +554,7 @@ fn first_arg(alloc: Global, t: &Option<JavaType>) -> Result<Option<JavaType>, No
 
 fn walked_by(alloc: Global, at: &Place<'_>, s: &JavaType) -> Result<Option<JavaType>, NoMemory>
     requires { IsReady at.now.reader.q }
+    ensures { Gives at.now result (λ k a. spec.walked_by k (spec.world a).walk s.now) }
 {
     match &at.reader.q.world.walk {
         None => Ok(None),
@@ -506,6 +568,7 @@ fn walked_by(alloc: Global, at: &Place<'_>, s: &JavaType) -> Result<Option<JavaT
 /// The type of the items of a value.
 fn item(alloc: Global, at: &Place<'_>, s: &JavaType) -> Result<Option<JavaType>, NoMemory>
     requires { IsReady at.now.reader.q }
+    ensures { Gives at.now result (λ k a. spec.item k a s.now) }
 {
     match element(s) {
         Some(x) => Ok(Some(copied(alloc, x)?)),
@@ -522,6 +585,7 @@ fn flow_maybe(
     links: Items<Link>,
 ) -> Result<Items<Link>, NoMemory>
     requires { IsReady at.now.reader.q }
+    ensures { Gives at.now result (λ k a. spec.flow_maybe k s.now t.now node links) }
 {
     match s {
         None => Ok(links),
@@ -530,6 +594,7 @@ fn flow_maybe(
 }
 
 /// The items of a value go to a variable of this type.
+#[tactic(auto, using(java_core::proofs::Views::plain_at))]
 pub(crate) fn walked(
     alloc: Global,
     at: &Place<'_>,
@@ -539,6 +604,7 @@ pub(crate) fn walked(
     links: Items<Link>,
 ) -> Result<Items<Link>, NoMemory>
     requires { IsReady at.now.reader.q }
+    ensures { Gives at.now result (λ k a. spec.walked k a locals.now (plain x.now) t.now links) }
 {
     if mentions(at.reader.class, &x.ty) {
         let s = value_type(alloc, at, locals, x)?;

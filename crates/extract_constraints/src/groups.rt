@@ -1,19 +1,30 @@
 //! The signatures of a method's group, and the types that own a method.
 
+ghost use Rattle.std.specs.Prelude.{◌≡◌, ◌&&◌, not};
+ghost use Rattle.class_world.specs.Types.{erased};
+ghost use Rattle.method_choice.specs.Choice.{pairwise};
 ghost use Rattle.type_facts.specs.Facts.{IsReady};
+ghost use Rattle.type_kinds.specs.Members.{method_at};
+ghost use Rattle.extract_constraints.specs.Flows.{world};
+ghost use Rattle.extract_constraints.specs.Groups as spec;
+ghost use Rattle.extract_constraints.specs.Told.{Gives, Tells, where_of};
 
-use crate::place::{Place, family, group, is_below, method_info, overrides};
+use crate::place::{Place, family, group, is_below, is_equal, method_info, overrides};
 use class_world::{JavaType, MethodInfo, erase};
 use java_tree::{Items, NoMemory};
 use member_uses::superclass;
 use std::alloc::Global;
 
 /// The type of `this` in code of a user, whose classes have no type parameters (JLS 8.1.2).
-pub(crate) fn own_type(alloc: Global, at: &Place<'_>) -> JavaType {
+pub(crate) fn own_type(alloc: Global, at: &Place<'_>) -> JavaType
+    ensures { result ≡ spec.own_type (where_of at.now) }
+{
     JavaType::Class(at.owner, Items::new(alloc))
 }
 
-fn type_or_null(t: Option<JavaType>) -> JavaType {
+fn type_or_null(t: Option<JavaType>) -> JavaType
+    ensures { result ≡ spec.type_or_null t }
+{
     match t {
         None => JavaType::Null,
         Some(t) => t,
@@ -21,25 +32,33 @@ fn type_or_null(t: Option<JavaType>) -> JavaType {
 }
 
 /// The type that `super` stands for (JLS 8.1.4).
-pub(crate) fn super_type(alloc: Global, at: &Place<'_>) -> Result<JavaType, NoMemory> {
+pub(crate) fn super_type(alloc: Global, at: &Place<'_>) -> Result<JavaType, NoMemory>
+    ensures { Gives at.now result (λ k a. spec.super_type a) }
+{
     let above = superclass(alloc, at.reader.q.world, at.owner)?;
     Ok(type_or_null(above))
 }
 
 fn is_alike(at: &Place<'_>, s: &JavaType, t: &JavaType) -> bool
     requires { IsReady at.now.reader.q }
+    ensures { Tells at.now result (λ k a. spec.is_alike k s.now t.now) }
 {
-    is_below(at, s, t) && is_below(at, t, s)
+    if is_below(at, s, t) {
+        return is_below(at, t, s);
+    }
+    false
 }
 
 fn erase_alike(alloc: Global, at: &Place<'_>, s: &JavaType, t: &JavaType) -> Result<bool, NoMemory>
     requires { IsReady at.now.reader.q }
+    ensures { Gives at.now result (λ k a. spec.erase_alike k s.now t.now) }
 {
     let s = erase(alloc, s)?;
     let t = erase(alloc, t)?;
     Ok(is_alike(at, &s, &t))
 }
 
+#[cycle(all)]
 fn all_erase_alike(
     alloc: Global,
     at: &Place<'_>,
@@ -47,16 +66,20 @@ fn all_erase_alike(
     ts: &[JavaType],
 ) -> Result<bool, NoMemory>
     requires { IsReady at.now.reader.q }
+    ensures { Gives at.now result (λ k a. pairwise (spec.erase_alike k) ss.now ts.now) }
 {
-    if ss.len() != ts.len() {
-        return Ok(false);
+    match ss.split_first() {
+        None => Ok(ts.is_empty()),
+        Some((s, ss)) => match ts.split_first() {
+            None => Ok(false),
+            Some((t, ts)) => {
+                if erase_alike(alloc, at, s, t)? {
+                    return all_erase_alike(alloc, at, ss, ts);
+                }
+                Ok(false)
+            }
+        },
     }
-    for (s, t) in ss.iter().zip(ts) {
-        if !erase_alike(alloc, at, s, t)? {
-            return Ok(false);
-        }
-    }
-    Ok(true)
 }
 
 /// Whether the parameter types of two methods have the same erasures (JLS 4.6, 8.4.2).
@@ -67,6 +90,7 @@ pub(crate) fn have_one_erasure(
     other: &MethodInfo,
 ) -> Result<bool, NoMemory>
     requires { IsReady at.now.reader.q }
+    ensures { Gives at.now result (λ k a. spec.have_one_erasure k info.now other.now) }
 {
     all_erase_alike(alloc, at, info.params.as_slice(), other.params.as_slice())
 }
@@ -74,12 +98,20 @@ pub(crate) fn have_one_erasure(
 /// Whether a method is another one, overrides it or is overridden by it.
 fn are_tied(at: &Place<'_>, m: u32, j: u32) -> bool
     requires { IsReady at.now.reader.q }
+    ensures { Tells at.now result (λ k a. spec.are_tied k m j) }
 {
-    j == m || overrides(at, m, j) || overrides(at, j, m)
+    if is_equal(j, m) {
+        return true;
+    }
+    if overrides(at, m, j) {
+        return true;
+    }
+    overrides(at, j, m)
 }
 
 fn differ(alloc: Global, at: &Place<'_>, info: &MethodInfo, j: u32) -> Result<bool, NoMemory>
     requires { IsReady at.now.reader.q }
+    ensures { Gives at.now result (λ k a. spec.differ k info.now (method_at (world a) j)) }
 {
     match method_info(at, j) {
         None => Ok(false),
@@ -95,6 +127,7 @@ fn is_another(
     j: u32,
 ) -> Result<bool, NoMemory>
     requires { IsReady at.now.reader.q }
+    ensures { Gives at.now result (λ k a. not (spec.are_tied k m j) && spec.differ k info.now (method_at (world a) j)) }
 {
     if are_tied(at, m, j) {
         return Ok(false);
@@ -110,6 +143,7 @@ pub(crate) fn is_several(
     info: &MethodInfo,
 ) -> Result<bool, NoMemory>
     requires { IsReady at.now.reader.q }
+    ensures { Gives at.now result (λ k a. spec.is_several k a m info.now) }
 {
     let others = group(at, m);
     for j in others {
@@ -120,7 +154,9 @@ pub(crate) fn is_several(
     Ok(false)
 }
 
-pub(crate) fn is_among(numbers: &[u32], m: u32) -> bool {
+pub(crate) fn is_among(numbers: &[u32], m: u32) -> bool
+    ensures { result ≡ spec.is_among numbers.now m }
+{
     for j in numbers {
         if *j == m {
             return true;
@@ -136,6 +172,7 @@ fn have_one_erasure_with(
     j: u32,
 ) -> Result<bool, NoMemory>
     requires { IsReady at.now.reader.q }
+    ensures { Gives at.now result (λ k a. spec.have_one_erasure_with k info.now (method_at (world a) j)) }
 {
     match method_info(at, j) {
         None => Ok(false),
@@ -145,6 +182,7 @@ fn have_one_erasure_with(
 
 fn is_of_family(at: &Place<'_>, m: u32, j: u32) -> bool
     requires { IsReady at.now.reader.q }
+    ensures { Tells at.now result (λ k a. spec.is_among (k.ties.family m) j) }
 {
     is_among(family(at, m), j)
 }
@@ -157,6 +195,7 @@ fn is_double(
     j: u32,
 ) -> Result<bool, NoMemory>
     requires { IsReady at.now.reader.q }
+    ensures { Gives at.now result (λ k a. not (spec.are_tied k m j) && (not (spec.is_among (k.ties.family m) j) && spec.have_one_erasure_with k info.now (method_at (world a) j))) }
 {
     if are_tied(at, m, j) {
         return Ok(false);
@@ -175,6 +214,7 @@ pub(crate) fn has_double(
     info: &MethodInfo,
 ) -> Result<bool, NoMemory>
     requires { IsReady at.now.reader.q }
+    ensures { Gives at.now result (λ k a. spec.has_double k a m info.now) }
 {
     let others = group(at, m);
     for j in others {

@@ -1,6 +1,12 @@
 //! The constraints of a program's user files.
 
+ghost use Rattle.std.specs.Prelude.{◌≡◌, IfOk, [], Some, map, take};
+ghost use Rattle.std.specs.Option.{option_copied, option_map};
+ghost use Rattle.java_core.specs.View.{class_plain, field_plain, file_plain, member_plain, method_plain, param_plain, plain, program_plain, stmt_plain};
 ghost use Rattle.type_facts.specs.Facts.{IsReady};
+ghost use Rattle.extract_constraints.specs.Links as spec;
+ghost use Rattle.extract_constraints.specs.Program as whole;
+ghost use Rattle.extract_constraints.specs.Told.{AreTold, Gives, Told, where_of};
 
 use crate::declarations::declaration;
 use crate::exprs::value;
@@ -26,6 +32,7 @@ fn field_value(
     links: Items<Link>,
 ) -> Result<Items<Link>, NoMemory>
     requires { IsReady at.now.reader.q }
+    ensures { Gives at.now result (λ k a. spec.field_value k a (option_copied t.entry) (plain x.now) links) }
 {
     let links = value(alloc, at, &[], x, links)?;
     match t {
@@ -42,6 +49,7 @@ fn in_field(
     links: Items<Link>,
 ) -> Result<Items<Link>, NoMemory>
     requires { IsReady at.now.reader.q }
+    ensures { Gives at.now result (λ k a. spec.in_field k a field (option_map plain x.now) links) }
 {
     match x {
         None => Ok(links),
@@ -56,6 +64,7 @@ fn in_fields(
     mut links: Items<Link>,
 ) -> Result<Items<Link>, NoMemory>
     requires { IsReady at.now.reader.q }
+    ensures { Gives at.now result (λ k a. spec.in_fields k a (map field_plain fields.now) links) }
 {
     for field in fields {
         links = in_field(alloc, at, field.field, &field.init, links)?;
@@ -63,7 +72,9 @@ fn in_fields(
     Ok(links)
 }
 
-fn or_own(alloc: Global, t: Option<&JavaType>, own: &JavaType) -> Result<JavaType, NoMemory> {
+fn or_own(alloc: Global, t: Option<&JavaType>, own: &JavaType) -> Result<JavaType, NoMemory>
+    ensures { IfOk result (λ r. r ≡ spec.or_own (option_copied t.entry) own.now) }
+{
     match t {
         Some(t) => copied(alloc, t),
         None => copied(alloc, own),
@@ -76,7 +87,9 @@ fn param_locals(
     at: &Place<'_>,
     method: u32,
     params: &[CoreParam],
-) -> Result<Items<JavaType>, NoMemory> {
+) -> Result<Items<JavaType>, NoMemory>
+    ensures { IfOk result (λ ls. ls ≡ spec.param_locals (where_of at.now) method 0 (map param_plain params.now) []) }
+{
     let mut locals = Items::new(alloc);
     for (index, param) in params.iter().enumerate() {
         let t = or_own(alloc, at.reader.marks.param(method, index), &param.ty)?;
@@ -93,6 +106,7 @@ fn in_known_body(
     links: Items<Link>,
 ) -> Result<Items<Link>, NoMemory>
     requires { IsReady at.now.reader.q }
+    ensures { Gives at.now result (λ k a. spec.in_body k a (method_plain method.now) (Some (stmt_plain body.now)) links) }
 {
     let place = Place {
         reader: at.reader,
@@ -112,6 +126,7 @@ fn in_body(
     links: Items<Link>,
 ) -> Result<Items<Link>, NoMemory>
     requires { IsReady at.now.reader.q }
+    ensures { Gives at.now result (λ k a. spec.in_body k a (method_plain method.now) (option_map stmt_plain method.now.body) links) }
 {
     match &method.body {
         None => Ok(links),
@@ -126,6 +141,7 @@ fn in_method(
     links: Items<Link>,
 ) -> Result<Items<Link>, NoMemory>
     requires { IsReady at.now.reader.q }
+    ensures { Gives at.now result (λ k a. spec.in_method k a (method_plain method.now) links) }
 {
     let links = declaration(alloc, at, method, links)?;
     in_body(alloc, at, method, links)
@@ -138,6 +154,7 @@ fn in_member(
     links: Items<Link>,
 ) -> Result<Items<Link>, NoMemory>
     requires { IsReady at.now.reader.q }
+    ensures { Gives at.now result (λ k a. spec.in_member k a (member_plain member.now) links) }
 {
     match member {
         CoreMember::Fields { vars, .. } => in_fields(alloc, at, vars.as_slice(), links),
@@ -152,6 +169,7 @@ fn in_members(
     mut links: Items<Link>,
 ) -> Result<Items<Link>, NoMemory>
     requires { IsReady at.now.reader.q }
+    ensures { Gives at.now result (λ k a. spec.in_members k a (map member_plain members.now) links) }
 {
     for member in members {
         links = in_member(alloc, at, member, links)?;
@@ -166,6 +184,7 @@ fn in_class(
     links: Items<Link>,
 ) -> Result<Items<Link>, NoMemory>
     requires { IsReady at.now.reader.q }
+    ensures { Gives at.now result (λ k a. spec.in_members k (spec.in_class_of a class.now.number) (map member_plain class.now.members) links) }
 {
     let place = Place {
         reader: at.reader,
@@ -183,6 +202,7 @@ fn in_classes(
     mut links: Items<Link>,
 ) -> Result<Items<Link>, NoMemory>
     requires { IsReady at.now.reader.q }
+    ensures { Gives at.now result (λ k a. spec.in_classes k a (map class_plain classes.now) links) }
 {
     for class in classes {
         links = in_class(alloc, at, class, links)?;
@@ -197,6 +217,7 @@ fn in_files(
     mut links: Items<Link>,
 ) -> Result<Items<Link>, NoMemory>
     requires { IsReady at.now.reader.q }
+    ensures { Gives at.now result (λ k a. spec.in_files k a (map file_plain files.now) links) }
 {
     for file in files {
         links = in_classes(alloc, at, file.classes.as_slice(), links)?;
@@ -204,7 +225,9 @@ fn in_files(
     Ok(links)
 }
 
-fn first_files(files: &[CoreFile], users: usize) -> &[CoreFile] {
+fn first_files(files: &[CoreFile], users: usize) -> &[CoreFile]
+    ensures { result.now ≡ take users files.now }
+{
     if users <= files.len() {
         &files[..users]
     } else {
@@ -223,6 +246,8 @@ pub fn links_of<'a>(
     methods: &'a [u32],
 ) -> Result<Items<Link>, NoMemory>
     requires ready { IsReady q.now }
+    ensures { (k : Told) → AreTold q.now k
+        → IfOk result (λ ls. ls ≡ whole.links_of k q.now.world.now class methods.now users (program_plain core.now)) }
 {
     let files = first_files(core.files.as_slice(), users);
     let marks = marks_of(alloc, class, q.world, files)?;

@@ -1,6 +1,14 @@
 //! The constraints on statements. The marked types of locals stand by slot; a declaration replaces what a slot held before.
 
+ghost use Rattle.std.specs.Prelude.{◌≡◌, ◌≤◌, IfOk, false, length, map};
+ghost use Rattle.std.specs.Option.{option_copied, option_map};
+ghost use Rattle.class_world.specs.declared.world.JavaType.{JavaType};
+ghost use Rattle.java_core.specs.View.{catch_plain, catch_row, group_plain, group_row, plain, plains, stmt_maybe, stmt_plain, stmts_plain, var_plain, written as written_plain};
 ghost use Rattle.type_facts.specs.Facts.{IsReady};
+ghost use Rattle.marked_types.specs.Marked as marking;
+ghost use Rattle.extract_constraints.specs.Arguments as arguments;
+ghost use Rattle.extract_constraints.specs.Links as spec;
+ghost use Rattle.extract_constraints.specs.Told.{Gives, where_of};
 
 use crate::arguments::{own_call, super_call};
 use crate::exprs::{optional, value, values};
@@ -20,22 +28,33 @@ pub struct Walked {
     pub links: Items<Link>,
 }
 
+// The locals with room for those before a slot: none stands for what was not there.
+fn with_room(locals: Items<JavaType>, slot: usize) -> Result<Items<JavaType>, NoMemory>
+    ensures room { IfOk result (λ ls. slot ≤ length ls) }
+    ensures same { IfOk result (λ ls. (t : JavaType) → spec.with_local ls slot t ≡ spec.with_local locals slot t) }
+{
+    let mut locals = locals;
+    for _ in locals.len()..slot {
+        locals.push(JavaType::Null)?;
+    }
+    Ok(locals)
+}
+
 /// Notes the type of a local, by its slot.
 pub(crate) fn with_local(
     locals: Items<JavaType>,
     slot: u32,
     t: JavaType,
-) -> Result<Items<JavaType>, NoMemory> {
-    let mut locals = locals;
+) -> Result<Items<JavaType>, NoMemory>
+    ensures { IfOk result (λ ls. ls ≡ spec.with_local locals slot t) }
+{
     let at = slot as usize;
-    for _ in locals.len()..at {
-        locals.push(JavaType::Null)?;
-    }
+    let mut locals = with_room(locals, at)?;
     if at < locals.len() {
         *locals.at_mut(at) = t;
-    } else {
-        locals.push(t)?;
+        return Ok(locals);
     }
+    locals.push(t)?;
     Ok(locals)
 }
 
@@ -48,6 +67,7 @@ fn init_to(
     links: Items<Link>,
 ) -> Result<Items<Link>, NoMemory>
     requires { IsReady at.now.reader.q }
+    ensures { Gives at.now result (λ k a. spec.init_to k a locals.now (option_map plain x.now) t.now links) }
 {
     match x {
         None => Ok(links),
@@ -67,6 +87,8 @@ fn local(
     s: Walked,
 ) -> Result<Walked, NoMemory>
     requires { IsReady at.now.reader.q }
+    ensures { Gives at.now result (λ k a. spec.declared_local k a var.now.slot
+        (marking.marked a.reading.class (written_plain written.now) var.now.ty) (option_map plain var.now.init) s) }
 {
     let t = marked(alloc, at.reader.class, written, &var.ty)?;
     let Walked { locals, links } = s;
@@ -83,6 +105,7 @@ fn locals(
     mut s: Walked,
 ) -> Result<Walked, NoMemory>
     requires { IsReady at.now.reader.q }
+    ensures { Gives at.now result (λ k a. spec.locals k a (written_plain written.now) (map var_plain vars.now) s) }
 {
     for var in vars {
         s = local(alloc, at, written, var, s)?;
@@ -100,6 +123,7 @@ fn looped(
     s: Walked,
 ) -> Result<Walked, NoMemory>
     requires { IsReady at.now.reader.q }
+    ensures { Gives at.now result (λ k a. spec.looped k a (written_plain written.now) (var_plain var.now) (plain x.now) s) }
 {
     let t = marked(alloc, at.reader.class, written, &var.ty)?;
     let Walked { locals, links } = s;
@@ -110,6 +134,7 @@ fn looped(
 }
 
 /// A thrown value stays of its class (JLS 14.18).
+#[tactic(auto, using(java_core::proofs::Views::plain_at))]
 fn thrown(
     alloc: Global,
     at: &Place<'_>,
@@ -119,6 +144,7 @@ fn thrown(
     links: Items<Link>,
 ) -> Result<Items<Link>, NoMemory>
     requires { IsReady at.now.reader.q }
+    ensures { Gives at.now result (λ k a. spec.thrown k a node (plain x.now) locals.now links) }
 {
     let links = value(alloc, at, locals, x, links)?;
     if mentions(at.reader.class, &x.ty) {
@@ -128,7 +154,9 @@ fn thrown(
     Ok(links)
 }
 
-fn given_mark<'a>(at: &Place<'a>) -> Option<&'a JavaType> {
+fn given_mark<'a>(at: &Place<'a>) -> Option<&'a JavaType>
+    ensures { option_copied result ≡ spec.given_mark (where_of at.now) at.now.method }
+{
     match at.method {
         None => None,
         Some(method) => at.reader.marks.result(method),
@@ -144,6 +172,7 @@ fn returned(
     links: Items<Link>,
 ) -> Result<Items<Link>, NoMemory>
     requires { IsReady at.now.reader.q }
+    ensures { Gives at.now result (λ k a. spec.returned k a (option_map plain x.now) locals.now links) }
 {
     match x {
         None => Ok(links),
@@ -158,6 +187,7 @@ fn returned(
 
 fn on_value(alloc: Global, at: &Place<'_>, x: &CoreExpr, s: Walked) -> Result<Walked, NoMemory>
     requires { IsReady at.now.reader.q }
+    ensures { Gives at.now result (λ k a. spec.same_locals s (λ ls. spec.value k a ls (plain x.now))) }
 {
     let Walked { locals, links } = s;
     let links = value(alloc, at, locals.as_slice(), x, links)?;
@@ -166,6 +196,7 @@ fn on_value(alloc: Global, at: &Place<'_>, x: &CoreExpr, s: Walked) -> Result<Wa
 
 fn on_values(alloc: Global, at: &Place<'_>, xs: &[CoreExpr], s: Walked) -> Result<Walked, NoMemory>
     requires { IsReady at.now.reader.q }
+    ensures { Gives at.now result (λ k a. spec.same_locals s (λ ls. spec.values k a ls (plains xs.now))) }
 {
     let Walked { locals, links } = s;
     let links = values(alloc, at, locals.as_slice(), xs, links)?;
@@ -179,6 +210,7 @@ fn on_optional(
     s: Walked,
 ) -> Result<Walked, NoMemory>
     requires { IsReady at.now.reader.q }
+    ensures { Gives at.now result (λ k a. spec.same_locals s (λ ls. spec.optional k a ls (option_map plain x.now))) }
 {
     let Walked { locals, links } = s;
     let links = optional(alloc, at, locals.as_slice(), x, links)?;
@@ -192,6 +224,7 @@ fn on_return(
     s: Walked,
 ) -> Result<Walked, NoMemory>
     requires { IsReady at.now.reader.q }
+    ensures { Gives at.now result (λ k a. spec.same_locals s (spec.returned k a (option_map plain x.now))) }
 {
     let Walked { locals, links } = s;
     let links = returned(alloc, at, x, locals.as_slice(), links)?;
@@ -206,6 +239,7 @@ fn on_throw(
     s: Walked,
 ) -> Result<Walked, NoMemory>
     requires { IsReady at.now.reader.q }
+    ensures { Gives at.now result (λ k a. spec.same_locals s (spec.thrown k a node (plain x.now))) }
 {
     let Walked { locals, links } = s;
     let links = thrown(alloc, at, node, x, locals.as_slice(), links)?;
@@ -221,6 +255,8 @@ fn on_this_call(
     s: Walked,
 ) -> Result<Walked, NoMemory>
     requires { IsReady at.now.reader.q }
+    ensures { Gives at.now result (λ k a. spec.same_locals s (λ ls l. arguments.own_call k a ls node false constructor
+        (plains args.now) (spec.values k a ls (plains args.now) l))) }
 {
     let Walked { locals, links } = s;
     let links = values(alloc, at, locals.as_slice(), args, links)?;
@@ -246,6 +282,8 @@ fn on_super_call(
     s: Walked,
 ) -> Result<Walked, NoMemory>
     requires { IsReady at.now.reader.q }
+    ensures { Gives at.now result (λ k a. spec.same_locals s (λ ls l. arguments.super_call k a ls node constructor
+        (plains args.now) (spec.values k a ls (plains args.now) l))) }
 {
     let Walked { locals, links } = s;
     let links = values(alloc, at, locals.as_slice(), args, links)?;
@@ -254,7 +292,9 @@ fn on_super_call(
 }
 
 /// The parameter of a catch is no place.
-fn caught(alloc: Global, slot: u32, t: &JavaType, s: Walked) -> Result<Walked, NoMemory> {
+fn caught(alloc: Global, slot: u32, t: &JavaType, s: Walked) -> Result<Walked, NoMemory>
+    ensures { IfOk result (λ r. r ≡ spec.walked_with (spec.with_local s.locals slot t.now) s.links) }
+{
     let Walked { locals, links } = s;
     let locals = with_local(locals, slot, copied(alloc, t)?)?;
     Ok(Walked { locals, links })
@@ -269,6 +309,7 @@ pub(crate) fn walk(
     s: Walked,
 ) -> Result<Walked, NoMemory>
     requires { IsReady at.now.reader.q }
+    ensures { Gives at.now result (λ k a. spec.walk k a (stmt_plain stmt.now) s) }
 {
     match &stmt.form {
         CoreStmtForm::Block(stmts) => walks(alloc, at, stmts.as_slice(), s),
@@ -341,6 +382,7 @@ fn maybe_walk(
     s: Walked,
 ) -> Result<Walked, NoMemory>
     requires { IsReady at.now.reader.q }
+    ensures { Gives at.now result (λ k a. spec.maybe_walk k a (stmt_maybe (option_map stmt_plain stmt.now)) s) }
 {
     match stmt {
         None => Ok(s),
@@ -356,6 +398,7 @@ fn walks(
     mut s: Walked,
 ) -> Result<Walked, NoMemory>
     requires { IsReady at.now.reader.q }
+    ensures { Gives at.now result (λ k a. spec.walks k a (stmts_plain stmts.now) s) }
 {
     for stmt in stmts {
         s = walk(alloc, at, stmt, s)?;
@@ -371,6 +414,7 @@ fn walk_groups(
     mut s: Walked,
 ) -> Result<Walked, NoMemory>
     requires { IsReady at.now.reader.q }
+    ensures { Gives at.now result (λ k a. spec.groups k a (group_row (map group_plain groups.now)) s) }
 {
     for group in groups {
         s = walks(alloc, at, group.body.as_slice(), s)?;
@@ -386,6 +430,7 @@ fn walk_catches(
     mut s: Walked,
 ) -> Result<Walked, NoMemory>
     requires { IsReady at.now.reader.q }
+    ensures { Gives at.now result (λ k a. spec.catches k a (catch_row (map catch_plain catches.now)) s) }
 {
     for catch in catches {
         let caught = caught(alloc, catch.param.slot, &catch.param.ty, s)?;

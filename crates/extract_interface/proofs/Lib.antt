@@ -2,5 +2,6 @@ mod Classes
 mod Firsts
 mod Keeping
 mod Kept
+mod Links
 mod Lists
 mod Wanted

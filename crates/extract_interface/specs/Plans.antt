@@ -7,7 +7,7 @@ use Rattle.class_world.specs.declared.world.TypeInfo.{TypeInfo}
 use Rattle.java_core.specs.declared.program.CoreClass.{CoreClass}
 use Rattle.java_core.specs.declared.program.CoreFile.{CoreFile}
 use Rattle.java_core.specs.declared.written.CoreType.{CoreType, out-CoreType}
-use Rattle.java_core.specs.View.{class_plain, file_plain}
+use Rattle.java_core.specs.View.{class_plain, file_plain, program_plain}
 use Rattle.member_table.specs.declared.members.Members.{Members}
 use Rattle.running_code.specs.declared.running.Running.{Running}
 use Rattle.running_code.specs.Running.{IsMadeOf}
@@ -20,6 +20,10 @@ use Rattle.kept_behaviour.specs.Kept.{KeepsWith}
 use Rattle.kept_places.specs.declared.links.Kept.{Kept}
 use Rattle.kept_places.specs.declared.links.Link.{Link}
 use Rattle.kept_places.specs.Kept.{AreKept}
+use Rattle.type_facts.specs.Facts.{IsReady}
+use Rattle.type_facts.specs.declared.questions.Questions.{Questions}
+use Rattle.extract_constraints.specs.Program.{links_of}
+use Rattle.extract_constraints.specs.Told.{AreTold, Told}
 use Rattle.class_places.specs.declared.places.ClassPlace.{ClassPlace}
 use Rattle.class_places.specs.Places.{places_in}
 use Rattle.interface_text.specs.declared.extraction.Extraction.{Extraction}
@@ -130,10 +134,18 @@ module _ (w : World) (s : CheckedSource) (x : Wish) where
     pub beside : IsBeside p.class.number p.declared.file p.declared.core.now created
     pub fresh : Contains (files_of x) created → ⊥
 
-  -- The new files: the places change that are not kept, and of some links the kept ones are those that have a chain. The edits are those of the places and of the new
-  -- interface.
+  -- The links are the constraints on the places of the class in the user's files, whatever tells the program.
+  pub record AreLinks (p : Plan) (links : List Link) : Type 0 where
+    pub questions : Questions
+    pub world : questions.world.now ≡ w
+    pub ready : IsReady questions
+    pub are : (k : Told) → AreTold questions k → links ≡ links_of k w p.class.number p.methods.now s.users (program_plain s.core.now)
+
+  -- The new files: the places change that are not kept, and the kept ones are those that have a chain of links to a need. The edits are those of the places and of the
+  -- new interface.
   pub record AreChanged (p : Plan) (kept : List Kept) (new : NewFiles) : Type 0 where
     pub links : List Link
+    pub are_links : AreLinks p links
     pub are_kept : AreKept links kept
     pub edits : List (List Edit)
     pub have : (i : ℕ) → i < length s.units.now → HasEdits x.name.now p (map place_of kept) i (slice_get s.core.now.files i) (slice_get edits i)

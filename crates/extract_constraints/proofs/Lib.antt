@@ -1,0 +1,6 @@
+mod Each
+mod EqualArguments
+mod Expressions
+mod Locals
+mod Numbers
+mod Statements

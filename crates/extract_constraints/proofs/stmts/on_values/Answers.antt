@@ -1,0 +1,11 @@
+use Rattle.std.proofs.Common.{ap, ◌∙◌}
+use Rattle.java_core.specs.View.{plains}
+use Rattle.extract_constraints.specs.Told.{where_of}
+use Rattle.extract_constraints.specs.Links as li
+use Rattle.extract_constraints.proofs.stmts.on_values.Goals as goal
+
+pub returns : goal.returns
+returns c =
+    λ k told.
+    let a = where_of c.args.at.now in
+    ap (li.walked_with c.args.s.locals) (c.in_ok-links.ensures k told ∙ ap (λ ls. li.values k a ls (plains c.args.xs.now) c.args.s.links) c.as_slice.ensures)
