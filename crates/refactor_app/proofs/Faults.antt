@@ -1,5 +1,5 @@
 -- The places of what is broken in texts.
-use Rattle.std.proofs.Common.{◌≡◌, ℕ, Bool, false, not, ◌&&◌, zero, suc, ◌+◌, ◌<◌, ◌≤◌, inl, inr, List, [], ◌∷◌, length, Some, Err, slice_get, refl, subst, arith}
+use Rattle.std.proofs.Common.{◌≡◌, ℕ, Bool, false, not, ◌&&◌, zero, suc, ◌+◌, ◌<◌, ◌≤◌, inl, inr, List, [], ◌∷◌, length, Some, Result, Ok, Err, IfOk, slice_get, refl, ◌∙◌, subst, arith}
 use Rattle.java_tree.specs.Names.{built_in_names}
 use Rattle.java_tree.specs.declared.tree.Token.{Token}
 use Rattle.java_lexer.specs.Lexing.{Lexes, Fails}
@@ -12,6 +12,10 @@ use Rattle.source_files.specs.declared.trees.TreeStop.TheVariants as tree
 use Rattle.source_files.specs.Held.{AreSmall}
 use Rattle.source_files.specs.Trees.{Fault, Lexical, Tokens, LeftOut, NoTree, IsTokenPlace, BreaksHere, BreaksAt}
 use Rattle.source_files.specs.Answers.{HasParsed}
+use Rattle.refactor_app.specs.Words.{Files, inputs}
+use Rattle.refactor_app.specs.Refusals.{IsAt}
+use Rattle.edit_writer.specs.Places.{place_at}
+use Rattle.report_text.specs.Report.{refused_at}
 
 -- the byte that a fault names, if it names one, is in the text or its end
 abbrev IsWithin : List ℕ → Fault → Type 0
@@ -85,3 +89,9 @@ left_out_placed texts rule file at small h = let a = breaks_among built_in_names
 
 pub no_tree_placed : (texts : List (List ℕ)) (file at : ℕ) → AreSmall texts → HasParsed texts (Err (tree.NoTree file at)) → IsPlaced texts file at
 no_tree_placed texts file at small h = let a = breaks_among built_in_names 0 0 texts file (NoTree at) h in placed texts file at small a.0 a.1 a.2
+
+-- the line of a refusal at a byte of a file
+pub refused_there : {X E : Type 0} (bytes : X → List ℕ) (r : Result X E) (rule name text line : List ℕ) (fs : Files) (texts : List (List ℕ)) (k at : ℕ)
+    → slice_get (inputs fs) k ≡ Some name → slice_get texts k ≡ Some text → line ≡ refused_at rule name (place_at text at) → IfOk r (λ l. bytes l ≡ line) → IfOk r (λ l. IsAt rule fs texts k at (bytes l))
+refused_there bytes (Ok l) rule name text line fs texts k at named there same is = record { name = name; text = text; named = named; there = there; is = is ∙ same }
+refused_there bytes (Err e) rule name text line fs texts k at named there same h = h

@@ -13,3 +13,4 @@ pub mod OneSense
 pub mod Places
 pub mod Tables
 mod Listing
+mod Marks

@@ -1,6 +1,7 @@
 pub mod Words
 pub mod Asked
 pub mod Declarations
+pub mod Marked
 pub mod Writes
 pub mod Changes
 pub mod Extractions

@@ -17,13 +17,15 @@ ghost use Rattle.refactor_app.specs.Asked.{extract_of};
 ghost use Rattle.refactor_app.specs.Extractions as spec;
 ghost use Rattle.refactor_app.specs.Checked.{AreFilesOf};
 ghost use Rattle.refactor_app.specs.Decided.{AreOutputs, DecidesExtract, IsExtractVerdict, IsWritten};
+ghost use Rattle.refactor_app.specs.Marked.{AreTables};
 ghost use Rattle.refactor_app.specs.Words.{Files, inputs};
 
 use crate::asked::AskedExtract;
 use crate::decide::{Output, Verdict, output_of, push_outputs};
-use crate::lines::{listed_name, node_name};
+use crate::lines::{listed_name, marks_of, node_name};
 use checked_files::Declared;
 use checker::{CheckedProgram, java_names, length_name};
+use edit_writer::Place;
 use extract_interface::{Against, Answer, Extracted, Wish, extract_interface};
 use generalize_declared::CheckedSource;
 use java_tree::tree::SourceUnit;
@@ -104,15 +106,17 @@ fn next_name(
     names: &[String],
     texts: &[Items<u8>],
     table: &[Option<NodePlace>],
+    tables: &[Items<Place>],
     next: Option<u32>,
 ) -> Result<Option<String>, NoMemory>
     requires small { AreSmall texts.now }
+    requires tables { AreTables texts.now tables.now }
     ensures { (fs : Files) (us : List unit.SourceUnit) → inputs fs ≡ map string_bytes names.now → ((k : ℕ) → told table.now k ≡ place_of us k)
         → IfOk result (λ r. option_map string_bytes r ≡ spec.next_name fs texts.now us next) }
 {
     match next {
         None => Ok(None),
-        Some(node) => Ok(Some(listed_name(alloc, names, texts, table, node)?)),
+        Some(node) => Ok(Some(listed_name(alloc, names, texts, table, tables, node)?)),
     }
 }
 
@@ -122,15 +126,17 @@ fn kept_line(
     names: &[String],
     texts: &[Items<u8>],
     table: &[Option<NodePlace>],
+    tables: &[Items<Place>],
     kept: Kept,
 ) -> Result<KeptLine, NoMemory>
     requires small { AreSmall texts.now }
+    requires tables { AreTables texts.now tables.now }
     ensures { (fs : Files) (us : List unit.SourceUnit) → inputs fs ≡ map string_bytes names.now → ((k : ℕ) → told table.now k ≡ place_of us k)
         → IfOk result (λ r. kept_parts r ≡ spec.kept_told fs texts.now us kept) }
 {
-    let place = listed_name(alloc, names, texts, table, kept.place)?;
-    let node = listed_name(alloc, names, texts, table, kept.node)?;
-    let next = next_name(alloc, names, texts, table, kept.next)?;
+    let place = listed_name(alloc, names, texts, table, tables, kept.place)?;
+    let node = listed_name(alloc, names, texts, table, tables, kept.node)?;
+    let next = next_name(alloc, names, texts, table, tables, kept.next)?;
     Ok(KeptLine {
         place,
         kind: kind_name(kept.kind),
@@ -139,21 +145,23 @@ fn kept_line(
     })
 }
 
-// What the report says of kept places, by a table of the places of nodes.
+// What the report says of kept places, by a table of the places of nodes and marks of the texts.
 fn listed_lines(
     alloc: Global,
     names: &[String],
     texts: &[Items<u8>],
     table: &[Option<NodePlace>],
+    tables: &[Items<Place>],
     kept: &[Kept],
 ) -> Result<Items<KeptLine>, NoMemory>
     requires small { AreSmall texts.now }
+    requires tables { AreTables texts.now tables.now }
     ensures { (fs : Files) (us : List unit.SourceUnit) → inputs fs ≡ map string_bytes names.now → ((k : ℕ) → told table.now k ≡ place_of us k)
         → IfOk result (λ r. map kept_parts r ≡ map (spec.kept_told fs texts.now us) kept.now) }
 {
     let mut lines = Items::new(alloc);
     for one in kept {
-        lines.push(kept_line(alloc, names, texts, table, *one)?)?;
+        lines.push(kept_line(alloc, names, texts, table, tables, *one)?)?;
     }
     Ok(lines)
 }
@@ -171,7 +179,15 @@ fn kept_lines(
         → IfOk result (λ r. map kept_parts r ≡ map (spec.kept_told fs texts.now (map unit_plain units.now)) kept.now) }
 {
     let table = places_of(alloc, units)?;
-    listed_lines(alloc, names, texts, table.as_slice(), kept)
+    let tables = marks_of(alloc, texts)?;
+    listed_lines(
+        alloc,
+        names,
+        texts,
+        table.as_slice(),
+        tables.as_slice(),
+        kept,
+    )
 }
 
 // The user's new files and the created one, to be written.

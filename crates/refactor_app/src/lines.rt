@@ -6,19 +6,22 @@ ghost use Rattle.java_tree.specs.View.{unit_plain};
 ghost use Rattle.java_tree.specs.Plain as unit;
 ghost use Rattle.node_places.specs.Places.{place_of};
 ghost use Rattle.node_lists.specs.Table.{told};
+ghost use Rattle.line_tables.specs.Marks.{AreMarks};
 ghost use Rattle.source_files.specs.Held.{AreSmall};
 ghost use Rattle.source_files.specs.Answers.{HasParsed};
 ghost use Rattle.refactor_app.specs.Words.{Files, inputs};
 ghost use Rattle.refactor_app.specs.Changes as changes;
 ghost use Rattle.refactor_app.specs.Checking as checking;
 ghost use Rattle.refactor_app.specs.Declarations as spec;
+ghost use Rattle.refactor_app.specs.Marked.{AreTables, marks_at};
 ghost use Rattle.refactor_app.specs.Refusals.{IsAt};
 ghost use Rattle.refactor_app.specs.Stops.{TellsStop};
 
-use edit_writer::place_at;
+use edit_writer::{Place, place_at};
 use generalize_declared::Against;
 use java_tree::tree::SourceUnit;
 use java_tree::{Broken, Family, Items, NoMemory};
+use line_tables::{line_table, place_by};
 use node_lists::place_in;
 use node_places::{NodePlace, first_byte};
 use report_text::{checked_files, place_text, refused_at, refused_place, rule_name, unchecked_at};
@@ -105,14 +108,39 @@ fn node_place(units: &[SourceUnit], node: Option<u32>) -> Option<NodePlace>
     first_byte(units, node?)
 }
 
-// FILE:LINE:COL of a place, which each node of the files has.
+/// Marks of each of these texts.
+pub(crate) fn marks_of(alloc: Global, texts: &[Items<u8>]) -> Result<Items<Items<Place>>, NoMemory>
+    requires { AreSmall texts.now }
+    ensures { IfOk result (AreTables texts.now) }
+{
+    let mut tables = Items::new(alloc);
+    for text in texts {
+        let marks = line_table(alloc, text.as_slice())?;
+        tables.push(marks)?;
+    }
+    Ok(tables)
+}
+
+// The marks of a file: none where there is no table of it.
+fn marks_in(tables: &[Items<Place>], file: usize) -> &[Place]
+    ensures { result.now ≡ marks_at tables.now file }
+{
+    match tables.get(file) {
+        Some(marks) => marks.as_slice(),
+        None => &[],
+    }
+}
+
+// FILE:LINE:COL of a place, by marks of its text: with none, the text is walked from its beginning.
 fn place_name(
     alloc: Global,
     names: &[String],
     texts: &[Items<u8>],
+    marks: &[Place],
     place: NodePlace,
 ) -> Result<String, NoMemory>
     requires small { AreSmall texts.now }
+    requires marks { (x : List ℕ) → slice_get texts.now place.file ≡ Some x → AreMarks x marks.now }
     ensures { (fs : Files) → inputs fs ≡ map string_bytes names.now → IfOk result (λ r. string_bytes r ≡ spec.place_name fs texts.now (Some place)) }
 {
     let Some(name) = names.get(place.file) else {
@@ -122,7 +150,7 @@ fn place_name(
         return nowhere(alloc);
     };
     let text = text.as_slice();
-    let at = place_at(text, text.len().min(place.at as usize));
+    let at = place_by(marks, text, text.len().min(place.at as usize));
     place_text(alloc, name.as_str(), at)
 }
 
@@ -138,25 +166,30 @@ pub(crate) fn node_name(
     ensures { (fs : Files) → inputs fs ≡ map string_bytes names.now → IfOk result (λ r. string_bytes r ≡ spec.node_name fs texts.now (map unit_plain units.now) node) }
 {
     match node_place(units, node) {
-        Some(place) => place_name(alloc, names, texts, place),
+        Some(place) => place_name(alloc, names, texts, &[], place),
         None => nowhere(alloc),
     }
 }
 
-/// The PLACE of a node of files of which a table tells the places of nodes.
+/// The PLACE of a node of files of which a table tells the places of nodes, by marks of their texts.
 pub(crate) fn listed_name(
     alloc: Global,
     names: &[String],
     texts: &[Items<u8>],
     table: &[Option<NodePlace>],
+    tables: &[Items<Place>],
     node: u32,
 ) -> Result<String, NoMemory>
     requires small { AreSmall texts.now }
+    requires tables { AreTables texts.now tables.now }
     ensures { (fs : Files) (us : List unit.SourceUnit) → inputs fs ≡ map string_bytes names.now → ((k : ℕ) → told table.now k ≡ place_of us k)
         → IfOk result (λ r. string_bytes r ≡ spec.node_name fs texts.now us (Some node)) }
 {
     match place_in(table, node) {
-        Some(place) => place_name(alloc, names, texts, place),
+        Some(place) => {
+            let marks = marks_in(tables, place.file);
+            place_name(alloc, names, texts, marks, place)
+        }
         None => nowhere(alloc),
     }
 }
@@ -253,7 +286,7 @@ fn unchecked_line(
     requires small { AreSmall texts.now }
     ensures { (fs : Files) → inputs fs ≡ map string_bytes names.now → IfOk result (λ r. string_bytes r ≡ checking.unchecked_line fs texts.now operation) }
 {
-    let place = place_name(alloc, names, texts, operation_place(operation))?;
+    let place = place_name(alloc, names, texts, &[], operation_place(operation))?;
     unchecked_at(alloc, place.as_str())
 }
 
